@@ -1,0 +1,9 @@
+// Systems: what answers the six questions, and what the answers mean.
+pub mod actions;
+pub mod component;
+pub mod empty;
+pub mod fault;
+pub mod lane;
+pub mod pile;
+pub mod records;
+pub mod system;

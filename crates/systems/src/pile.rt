@@ -1,0 +1,155 @@
+// A system over another.
+ghost use mathlib.Core.Path.{_≡_};
+ghost use Prim.Native.Nat.{_≤_};
+ghost use Rattle.std.specs.declared.result.Result.the-variants.{Ok, Err};
+ghost use Rattle.std.specs.declared.option.Option.the-variants.{Some, None};
+ghost use Rattle.systems.specs.Meaning.{Between};
+ghost use Rattle.systems.specs.Piles.{pile, fitted, agrees, inside, refusal, both, Room};
+use crate::system::System;
+use crate::actions::ActionSet;
+use crate::fault::Fault;
+use crate::system::Target;
+
+#[derive(Drop)]
+pub struct Pile<U: System, L: System> {
+    upper: U,
+    lower: L,
+    shared: ActionSet,
+    states: u32,
+    mass: u64,
+    breadth: u32,
+    ghost counted: { Between 1 1073741824 states },
+    ghost weighed: { Between 1 1000000000000000 mass },
+    ghost broad: { Between 2 1073741824 breadth },
+}
+
+impl<U: System, L: System> Pile<U, L> {
+    pub fn new(upper: U, lower: L, shared: ActionSet) -> Result<Pile<U, L>, (U, L, Fault)>
+        ensures { λ r. ⌜ elim r [ Ok p ↦ (refusal (U·System .meaning upper) (L·System .meaning lower) ≡ None) × (fitted (p .states) (p .mass) (p .breadth) (pile (p .shared .bits) (U·System .meaning (p .upper)) (L·System .meaning (p .lower))) ≡ pile (shared .bits) (U·System .meaning upper) (L·System .meaning lower)) | Err e ↦ (refusal (U·System .meaning upper) (L·System .meaning lower) ≡ Some (e .2)) × (e .0 ≡ upper) × (e .1 ≡ lower) ] ⌝ }
+    {
+        let states = upper.states() as u64 * lower.states() as u64;
+        let breadth = upper.breadth() as u64 * lower.breadth() as u64;
+        if states > 1073741824 || breadth > 1073741824 {
+            return Err((upper, lower, Fault::Size));
+        }
+        let mass = upper.mass() as u128 * lower.mass() as u128;
+        if mass > 1000000000000000 {
+            return Err((upper, lower, Fault::Mass));
+        }
+        Ok(Pile {
+            upper,
+            lower,
+            shared,
+            states: states as u32,
+            mass: mass as u64,
+            breadth: breadth as u32,
+        })
+    }
+
+    // Whether there is such a state, and the numbers are those of the parts.
+    fn has(&self, state: u32) -> bool
+        ensures { λ r. ⌜ r ≡ inside (now (self .entry) .states) (now (self .entry) .mass) (now (self .entry) .breadth) (pile (now (self .entry) .shared .bits) (U·System .meaning (now (self .entry) .upper)) (L·System .meaning (now (self .entry) .lower))) state ⌝ }
+    {
+        let states = self.upper.states() as u64 * self.lower.states() as u64;
+        let mass = self.upper.mass() as u128 * self.lower.mass() as u128;
+        let breadth = self.upper.breadth() as u64 * self.lower.breadth() as u64;
+        state < self.states && states == self.states as u64 && mass == self.mass as u128 && breadth == self.breadth as u64
+    }
+}
+
+// One target over another, where the lower system has k states.
+fn joined(k: u32, upper: Option<Target>, lower: Option<Target>) -> Option<Target>
+    requires { ⌜ Room k upper lower ⌝ }
+    ensures { λ r. ⌜ r ≡ both k upper lower ⌝ }
+{
+    let Some(x) = upper else {
+        return None;
+    };
+    let Some(y) = lower else {
+        return None;
+    };
+    Some(Target {
+        state: x.state * k + y.state,
+        weight: x.weight * y.weight,
+    })
+}
+
+pub impl<U: System, L: System> System for Pile<U, L> as PileSystem {
+    ghost meaning = { λ p. fitted (p .states) (p .mass) (p .breadth) (pile (p .shared .bits) (U·System .meaning (p .upper)) (L·System .meaning (p .lower))) };
+
+    fn states(&self) -> u32 {
+        self.states
+    }
+
+    fn mass(&self) -> u64 {
+        self.mass
+    }
+
+    fn breadth(&self) -> u32 {
+        self.breadth
+    }
+
+    fn moves(&self, state: u32, action: u32) -> u32 {
+        if !self.has(state) {
+            return 0;
+        }
+        let k = self.lower.states();
+        let up = self.upper.moves(state / k, action);
+        let low = self.lower.moves(state % k, action);
+        if self.shared.contains(action) { up * low } else { up + low }
+    }
+
+    fn targets(&self, state: u32, action: u32, mv: u32) -> u32 {
+        if !self.has(state) {
+            return 0;
+        }
+        let k = self.lower.states();
+        let u = state / k;
+        let v = state % k;
+        if self.shared.contains(action) {
+            let low = self.lower.moves(v, action);
+            if low == 0 {
+                return 0;
+            }
+            return self.upper.targets(u, action, mv / low) * self.lower.targets(v, action, mv % low);
+        }
+        let up = self.upper.moves(u, action);
+        if mv < up {
+            self.upper.targets(u, action, mv)
+        } else {
+            self.lower.targets(v, action, mv - up)
+        }
+    }
+
+    fn target(&self, state: u32, action: u32, mv: u32, index: u32) -> Option<Target> {
+        if !self.has(state) {
+            return None;
+        }
+        let k = self.lower.states();
+        let u = state / k;
+        let v = state % k;
+        if self.shared.contains(action) {
+            let low = self.lower.moves(v, action);
+            if low == 0 {
+                return None;
+            }
+            let n = self.lower.targets(v, action, mv % low);
+            if n == 0 {
+                return None;
+            }
+            let x = self.upper.target(u, action, mv / low, index / n);
+            let y = self.lower.target(v, action, mv % low, index % n);
+            return joined(k, x, y);
+        }
+        let up = self.upper.moves(u, action);
+        if mv < up {
+            let x = self.upper.target(u, action, mv, index);
+            let weight = self.lower.mass();
+            joined(k, x, Some(Target { state: v, weight }))
+        } else {
+            let y = self.lower.target(v, action, mv - up, index);
+            let weight = self.upper.mass();
+            joined(k, Some(Target { state: u, weight }), y)
+        }
+    }
+}
