@@ -1,0 +1,6 @@
+pub mod Lines
+pub mod Layout
+pub mod Truths
+pub mod Stands
+pub mod Right
+pub mod Laws

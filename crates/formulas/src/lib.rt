@@ -1,0 +1,3 @@
+// Formulas: their tables, what they say of a system, and how one is read from text.
+pub mod draft;
+pub mod node;
