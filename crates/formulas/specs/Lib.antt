@@ -4,3 +4,10 @@ pub mod Truths
 pub mod Stands
 pub mod Right
 pub mod Laws
+pub mod Words
+pub mod Tokens
+pub mod Trees
+pub mod Grammar
+pub mod Faults
+pub mod Reading
+pub mod Spelling

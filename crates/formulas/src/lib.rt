@@ -1,3 +1,6 @@
 // Formulas: their tables, what they say of a system, and how one is read from text.
 pub mod draft;
+pub mod fault;
 pub mod node;
+pub mod token;
+pub mod words;
