@@ -7,8 +7,7 @@ use native.Mathlib.Nat.{le-of-suc-le-suc, not-suc-le-zero, add-zero}
 use native.Mathlib.Omega.{arith}
 use lib.Dec.{leb, ltb, eqb}
 use lib.ListN.{length, getD, take, drop}
-use Rattle.std.proofs.shelf.Lists.{take-take, drop-take, drop-drop, getD-map, length-map}
-use Rattle.std.proofs.shelf.Elements.{all-take, all-drop}
+use Rattle.std.proofs.shelf.Lists.{getD-map, length-map}
 use Rattle.std.proofs.shelf.Sums.{sumBy-cons}
 use Rattle.std.proofs.shelf.Tests.{and-parts, leb-true, ltb-true, eqb-true}
 use Rattle.std.specs.shelf.Lists.{All, sumBy}
@@ -20,9 +19,14 @@ use Rattle.formulas.specs.declared.node.StateNode as sn
 use Rattle.formulas.specs.declared.node.DistNode as dn
 use Rattle.formulas.specs.declared.node.Run.{Run}
 use Rattle.formulas.specs.declared.node.Term.{Term}
-use Rattle.formulas.specs.Stands.{isState, isDist, below-state, below-dist, run-ok, all-dist, term-ok, terms-ok, step-ok, sum-ok, state-ok, dist-ok, node-ok, terms-of, alternatives-of, walk, stands}
+use Rattle.formulas.specs.Stands.{isState, isDist, below-state, below-dist, all-dist, term-ok, terms-ok, sum-ok, node-ok, terms-of, alternatives-of, walk, stands}
 use Rattle.formulas.specs.Lines.{state, constant, Line, part, line, lines}
-use Rattle.formulas.specs.Right.{Below, Formed, Right, Right-state, Right-dist, Right-step, Right-sum, All-right}
+use Rattle.formulas.proofs.Fits.{Step-fit, Sum-fit, step-of, sum-of, part-add}
+use Rattle.formulas.specs.Right.{Below, Formed, Right, Right-step, Right-sum, All-right}
+
+all-apart : {X : Type 0} (P : X → Type 0) (xs ys : List X) → All P (xs ++ ys) → All P xs × All P ys
+all-apart P [] ys h = (tt, h)
+all-apart P (x ∷ xs) ys h = let r = all-apart P xs ys (h .1) in ((h .0, r .0), r .1)
 
 module _ (ns : List Node) (i : ℕ) where
   state-below : (j : ℕ) → below-state ns i j ≡ true → j < i
@@ -46,34 +50,25 @@ module _ (ns : List Node) (i : ℕ) where
       ((state-below (t .node) (r .1), rest .0), omega (arith, sumBy-cons (λ u. u .coefficient) t ts, rest .1))
 
 module _ (ns : List Node) (ts : List Term) (alts : List ℕ) (m i : ℕ) where
-  step-right : (a : ℕ) (mv h : Run) → step-ok ns alts i a mv h ≡ true → Right-step alts i mv h
-  step-right a mv h ok =
-      let p = and-parts (run-ok (length alts) a mv) (run-ok (length alts) (a + mv .count) h && all-dist ns i (part alts a (mv .count + h .count))) ok in
-      let q = and-parts (run-ok (length alts) (a + mv .count) h) (all-dist ns i (part alts a (mv .count + h .count))) (p .1) in
-      let r1 = and-parts (eqb (mv .first) a) (leb (a + mv .count) (length alts)) (p .0) in
-      let r2 = and-parts (eqb (h .first) (a + mv .count)) (leb (a + mv .count + h .count) (length alts)) (q .0) in
-      let e1 = eqb-true (mv .first) a (r1 .0) in
-      let e2 = eqb-true (h .first) (a + mv .count) (r2 .0) in
-      let l1 = leb-true (a + mv .count) (length alts) (r1 .1) in
-      let l2 = leb-true (a + mv .count + h .count) (length alts) (r2 .1) in
-      let all = all-below ns i (part alts a (mv .count + h .count)) (q .1) in
+  step-right : (a : ℕ) (mv h : Run) → Step-fit ns alts i a mv h → Right-step alts i mv h
+  step-right a mv h fit =
       let Low : List ℕ → Type 0 = All (λ d. d < i) in
-      let front : part alts a (mv .count) ≡ take (mv .count) (part alts a (mv .count + h .count)) = sym (take-take (mv .count) (mv .count + h .count) (drop a alts) (omega arith)) in
-      let back : part alts (a + mv .count) (h .count) ≡ drop (mv .count) (part alts a (mv .count + h .count)) = sym (drop-take (mv .count) (h .count) (drop a alts) ∙ ap (take (h .count)) (drop-drop (mv .count) a alts)) in
+      let all = all-apart (λ d. d < i) (part alts a (mv .count)) (part alts (a + mv .count) (h .count)) (subst Low (part-add alts a (mv .count) (h .count)) (all-below ns i (part alts a (mv .count + h .count)) (fit .parts))) in
+      let e = fit .moves .first in
+      let g = fit .heres .first in
+      let within = fit .heres .within in
       record {
         moves-within = omega arith;
         here-within = omega arith;
-        moves-below = subst Low (sym (ap (λ f. part alts f (mv .count)) e1 ∙ front)) (all-take (λ d. d < i) (mv .count) _ all);
-        here-below = subst Low (sym (ap (λ f. part alts f (h .count)) e2 ∙ back)) (all-drop (λ d. d < i) (mv .count) _ all);
+        moves-below = subst Low (ap (λ f. part alts f (mv .count)) (sym e)) (all .0);
+        here-below = subst Low (ap (λ f. part alts f (h .count)) (sym g)) (all .1);
       }
 
-  sum-right : (t least : ℕ) (r : Run) → leb least (1000 * m) ≡ true → sum-ok ns ts m i t r ≡ true → Right-sum ts m i least r
-  sum-right t least r low ok =
-      let p = and-parts (run-ok (length ts) t r) (terms-ok ns i (1000 * m) (part ts t (r .count))) ok in
-      let q = and-parts (eqb (r .first) t) (leb (t + r .count) (length ts)) (p .0) in
-      let e = eqb-true (r .first) t (q .0) in
-      let l = leb-true (t + r .count) (length ts) (q .1) in
-      let all = terms-below ns i (1000 * m) (part ts t (r .count)) (p .1) in
+  sum-right : (t least : ℕ) (r : Run) → leb least (1000 * m) ≡ true → Sum-fit ns ts m i t r → Right-sum ts m i least r
+  sum-right t least r low fit =
+      let e = fit .terms .first in
+      let end = fit .terms .within in
+      let all = terms-below ns i (1000 * m) (part ts t (r .count)) (fit .parts) in
       let Low : ℕ → Type 0 = λ f. All (λ t. t .node < i) (part ts f (r .count)) in
       let Light : ℕ → Type 0 = λ f. sumBy (λ t. t .coefficient) (part ts f (r .count)) ≤ 1000 * m in
       record {
@@ -83,23 +78,17 @@ module _ (ns : List Node) (ts : List Term) (alts : List ℕ) (m i : ℕ) where
         light = subst Light (sym e) (all .1);
       }
 
-  state-right : (a : ℕ) (x : StateNode) → state-ok ns alts i a x ≡ true → Right-state alts i x
-  state-right a sn.the-variants.Yes h = tt
-  state-right a sn.the-variants.No h = tt
-  state-right a (sn.the-variants.And j k) h = let p = and-parts (below-state ns i j) (below-state ns i k) h in (state-below ns i j (p .0), state-below ns i k (p .1))
-  state-right a (sn.the-variants.Not j) h = state-below ns i j h
-  state-right a (sn.the-variants.Step act mv g) h = step-right a mv g (and-parts (leb act 31) (step-ok ns alts i a mv g) h .1)
-
-  dist-right : (t : ℕ) (x : DistNode) → dist-ok ns ts m i t x ≡ true → Right-dist ts m i x
-  dist-right t dn.the-variants.Yes h = tt
-  dist-right t dn.the-variants.No h = tt
-  dist-right t (dn.the-variants.And j k) h = let p = and-parts (below-dist ns i j) (below-dist ns i k) h in (dist-below ns i j (p .0), dist-below ns i k (p .1))
-  dist-right t (dn.the-variants.Not j) h = dist-below ns i j h
-  dist-right t (dn.the-variants.Sum least r) h = let p = and-parts (leb least (1000 * m)) (sum-ok ns ts m i t r) h in sum-right t least r (p .0) (p .1)
-
   node-right : (t a : ℕ) (n : Node) → node-ok ns ts alts m i t a n ≡ true → Right ts alts m i n
-  node-right t a (State x) h = state-right a x h
-  node-right t a (Dist x) h = dist-right t x h
+  node-right t a (State sn.the-variants.Yes) h = tt
+  node-right t a (State sn.the-variants.No) h = tt
+  node-right t a (State (sn.the-variants.And j k)) h = let p = and-parts (below-state ns i j) (below-state ns i k) h in (state-below ns i j (p .0), state-below ns i k (p .1))
+  node-right t a (State (sn.the-variants.Not j)) h = state-below ns i j h
+  node-right t a (State (sn.the-variants.Step act mv g)) h = step-right a mv g (step-of ns ts alts m i t a act mv g h)
+  node-right t a (Dist dn.the-variants.Yes) h = tt
+  node-right t a (Dist dn.the-variants.No) h = tt
+  node-right t a (Dist (dn.the-variants.And j k)) h = let p = and-parts (below-dist ns i j) (below-dist ns i k) h in (dist-below ns i j (p .0), dist-below ns i k (p .1))
+  node-right t a (Dist (dn.the-variants.Not j)) h = dist-below ns i j h
+  node-right t a (Dist (dn.the-variants.Sum least r)) h = sum-right t least r (and-parts (leb least (1000 * m)) (sum-ok ns ts m i t r) h .0) (sum-of ns ts alts m i t a least r h)
 
 module _ (ns : List Node) (ts : List Term) (alts : List ℕ) (m : ℕ) where
   walk-right : (i t a : ℕ) (rest : List Node) → walk ns ts alts m i t a rest ≡ true → (k : ℕ) (d : Node) → k < length rest → Right ts alts m (i + k) (getD rest k d)
