@@ -4,7 +4,7 @@ ghost use mathlib.Core.Bool.{true, _&&_};
 ghost use Prim.Native.Nat.{_*_, _≤_};
 ghost use lib.Dec.{leb};
 ghost use lib.ListN.{length, take};
-ghost use Rattle.formulas.specs.Laws.{Truth-law};
+ghost use Rattle.formulas.specs.Laws.{Truth-law, Formed-law, In-law, Of-law, Layout-law, Lines-law};
 ghost use Rattle.formulas.specs.Right.{All-right};
 ghost use Rattle.formulas.specs.Stands.{stateSort, isState, isDist, below-state, below-dist, run-ok, all-dist, term-ok, terms-ok, step-ok, sum-ok, state-ok, dist-ok, node-ok, terms-of, alternatives-of, stands, formula-in};
 use crate::node::DistNode;
@@ -296,9 +296,26 @@ pub fn formula_in(
     )
 }
 
-// The law of truth stands.
+// The law of truth.
 pub fn truth_stands() -> u8
     ensures { λ _. ⌜ Truth-law ⌝ }
+{
+    0
+}
+
+// The laws of satisfaction: a line holds where it is satisfied, by its kind.
+pub fn satisfaction_stands() -> u8
+    ensures formed { λ _. ⌜ Formed-law ⌝ }
+    ensures states { λ _. ⌜ In-law ⌝ }
+    ensures moves { λ _. ⌜ Of-law ⌝ }
+{
+    0
+}
+
+// The laws of layout: tables that hold a formula and their lines determine each other.
+pub fn layout_stands() -> u8
+    ensures tables { λ _. ⌜ Layout-law ⌝ }
+    ensures lines { λ _. ⌜ Lines-law ⌝ }
 {
     0
 }
