@@ -3,6 +3,7 @@ pub mod Layout
 pub mod Truths
 pub mod Stands
 pub mod Right
+pub mod Satisfaction
 pub mod Laws
 pub mod Words
 pub mod Tokens
