@@ -7,3 +7,4 @@ pub mod lane;
 pub mod pile;
 pub mod records;
 pub mod system;
+mod tables;

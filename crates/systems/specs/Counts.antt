@@ -1,0 +1,12 @@
+-- How many records of each state and action have been met.
+use Prim.Native.Nat.{ℕ, _<_}
+use mathlib.Core.Path.{_≡_}
+use mathlib.Core.List.{List}
+use lib.ListN.{length, getD, take}
+use Rattle.systems.specs.declared.records.MoveRecord.{MoveRecord}
+use Rattle.systems.specs.Tables.{asked, cell-of}
+
+-- the counts of the first i records
+pub record Counted (rs : List MoveRecord) (i : ℕ) (counts : List ℕ) : Type 0 where
+  pub whole : length counts ≡ 2048
+  pub each : (k a : ℕ) → k < 64 → a < 32 → getD counts (cell-of k a) 0 ≡ length (asked k a (take i rs))
