@@ -1,13 +1,13 @@
 -- Tables that hold a formula are the layout of their lines, and lines are read back from their layout.
 use mathlib.Core.Path.{_≡_, refl, sym, ap, ap₂, _∙_}
-use mathlib.Core.Bool.{true, false, _&&_}
-use mathlib.Core.List.{List, [], _∷_, _++_, map, append-assoc}
+use mathlib.Core.Bool.{true, false}
+use mathlib.Core.List.{List, [], _∷_, _++_, append-assoc}
 use Prim.Native.Nat.{ℕ, zero-le, _+_, _≤_}
 use native.Mathlib.Omega.{arith}
 use lib.Dec.{eqb}
 use lib.ListN.{length, take, drop, length-take, length-drop}
 use lib.Seq.{take-append-seam, drop-append-seam}
-use Rattle.std.proofs.shelf.Lists.{take-append-drop, drop-drop, drop-all, length-append}
+use Rattle.std.proofs.shelf.Lists.{take-append-drop, drop-drop, drop-all}
 use Rattle.std.proofs.shelf.Tests.{and-parts, eqb-true}
 use Rattle.formulas.specs.declared.node.Node.{Node}
 use Rattle.formulas.specs.declared.node.Node.the-variants.{State, Dist}
