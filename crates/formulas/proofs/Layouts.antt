@@ -111,8 +111,8 @@ module _ (ns : List Node) (ts : List Term) (alts : List ℕ) (m : ℕ) where
       let later = walk-again (i + 1) (t + terms-of n) (a + alternatives-of n) rest it ia (p .1) in
       record {
         nodes =
-          ap₂ (λ x y. node t a (line ts alts n) ∷ node-table (t + x) (a + y) (lines rest ts alts)) (ap length et ∙ part-length ts t (terms-of n) it) (ap length ea ∙ part-length alts a (alternatives-of n) ia)
-          ∙ ap₂ _∷_ (node-again ns ts alts m i t a n (p .0)) (later .nodes);
+            ap₂ (λ x y. node t a (line ts alts n) ∷ node-table (t + x) (a + y) (lines rest ts alts)) (ap length et ∙ part-length ts t (terms-of n) it) (ap length ea ∙ part-length alts a (alternatives-of n) ia)
+            ∙ ap₂ _∷_ (node-again ns ts alts m i t a n (p .0)) (later .nodes);
         terms = ap₂ _++_ et (later .terms) ∙ part-next ts t (terms-of n);
         alternatives = ap₂ _++_ ea (later .alternatives) ∙ part-next alts a (alternatives-of n);
       }
