@@ -20,7 +20,7 @@ use Rattle.std.proofs.shelf.Elements.{all-getD}
 use Rattle.std.proofs.shelf.Sums.{getD-le-sumBy}
 use Rattle.systems.specs.declared.system.Target.{Target}
 use Rattle.systems.specs.Meaning.{Meaning, Move, Ruled, Good, Aimed, point, total}
-use Rattle.systems.specs.Piles.{cross, over, pair, moves-over, pile-moves, pile, fitted, agrees, inside, Split, both, Room}
+use Rattle.systems.specs.Piles.{cross, over, pair, moves-over, pile-moves, pile, fitted, agrees, inside, Outside, Split, both, Room}
 use Rattle.systems.proofs.Cross.{length-cross}
 use Rattle.systems.proofs.Piled.{inside-moves, outside-moves, shared-moves, apart-moves, shared-count, apart-count, shared-move, upper-move, lower-move, nil-cross, cross-nil, nth-pair, good-move}
 use Rattle.systems.proofs.PiledSound.{Same, same-numbers, sum-le-product, sound-piled, upper-below, lower-below}
@@ -77,16 +77,15 @@ nth-lower k t ml i = go (cases-lt i (length ml))
         let e : length (pair k (t ∷ []) ml) ≤ i = omega (arith, length-pair k (t ∷ []) ml, one-mul (length ml)) in
         nth-past (pair k (t ∷ []) ml) i e ∙ rw (nth-past ml i g) refl
 
-module _ (A : ℕ → Bool) (n m b : ℕ) (U L : Meaning) where
-  pub moves-outside : (k a : ℕ) → inside n m b (pile A U L) k ≡ false → fitted n m b (pile A U L) .moves k a ≡ []
-  moves-outside k a e = go (cases-bool (agrees n m b (pile A U L))) (and-cases (ltb k n) (agrees n m b (pile A U L)) e)
-    where
-      none : agrees n m b (pile A U L) ≡ false → fitted n m b (pile A U L) .moves k a ≡ []
-      none f = cond-false (agrees n m b (pile A U L)) (pile-moves A U L k a) [] f
-      go : (agrees n m b (pile A U L) ≡ true) ⊎ (agrees n m b (pile A U L) ≡ false) → (ltb k n ≡ false) ⊎ (agrees n m b (pile A U L) ≡ false) → fitted n m b (pile A U L) .moves k a ≡ []
-      go (inr f) g = none f
-      go (inl t) (inr g) = none g
-      go (inl t) (inl g) = cond-true (agrees n m b (pile A U L)) (pile-moves A U L k a) [] t ∙ outside-moves A U L k a (omega (arith, ltb-false k n g, same-numbers n m b (pile A U L) t .states-same))
+pub moves-outside : {A : ℕ → Bool} {n m b : ℕ} {U L : Meaning} {s : ℕ} → Outside A n m b U L s → (a : ℕ) → fitted n m b (pile A U L) .moves s a ≡ []
+moves-outside {A} {n} {m} {b} {U} {L} {s} h a = go (cases-bool (agrees n m b (pile A U L))) (and-cases (ltb s n) (agrees n m b (pile A U L)) (h .without))
+  where
+    none : agrees n m b (pile A U L) ≡ false → fitted n m b (pile A U L) .moves s a ≡ []
+    none f = cond-false (agrees n m b (pile A U L)) (pile-moves A U L s a) [] f
+    go : (agrees n m b (pile A U L) ≡ true) ⊎ (agrees n m b (pile A U L) ≡ false) → (ltb s n ≡ false) ⊎ (agrees n m b (pile A U L) ≡ false) → fitted n m b (pile A U L) .moves s a ≡ []
+    go (inr f) g = none f
+    go (inl t) (inr g) = none g
+    go (inl t) (inl g) = cond-true (agrees n m b (pile A U L)) (pile-moves A U L s a) [] t ∙ outside-moves A U L s a (omega (arith, ltb-false s n g, same-numbers n m b (pile A U L) t .states-same))
 
 -- in a state that is u over v
 module _ {A : ℕ → Bool} {n m b : ℕ} {U L : Meaning} {s u v : ℕ} (h : Split A n m b U L s u v) where

@@ -2,7 +2,7 @@
 use Prim.Native.Nat.{ℕ, _+_, _*_, _/_, _%_, _≤_}
 use mathlib.Core.Path.{_≡_}
 use mathlib.Core.List.{List, [], _∷_, _++_, map}
-use mathlib.Core.Bool.{Bool, true, _&&_, _||_, cond}
+use mathlib.Core.Bool.{Bool, true, false, _&&_, _||_, cond}
 use Rattle.std.specs.declared.option.Option.{Option}
 use Rattle.std.specs.declared.option.Option.the-variants.{Some, None}
 use Rattle.systems.specs.declared.fault.Fault.{Fault}
@@ -57,6 +57,10 @@ fitted n m b s = record
   ; breadth = b
   ; moves = λ k a. cond (agrees n m b s) (s .moves k a) []
   }
+
+-- a pile whose numbers are n, m and b has no state s
+pub record Outside (A : ℕ → Bool) (n m b : ℕ) (U L : Meaning) (s : ℕ) : Type 0 where
+  pub without : inside n m b (pile A U L) s ≡ false
 
 -- the state s of a pile whose numbers are n, m and b is u over v
 pub record Split (A : ℕ → Bool) (n m b : ℕ) (U L : Meaning) (s u v : ℕ) : Type 0 where

@@ -1,13 +1,12 @@
 // A system over another.
 ghost use mathlib.Core.Path.{_≡_};
-ghost use mathlib.Core.Bool.{false};
 ghost use Prim.Native.Nat.{_≤_};
 ghost use Rattle.std.specs.Options.{Cases as BySome};
 ghost use Rattle.std.specs.declared.result.Result.the-variants.{Ok, Err};
 ghost use Rattle.std.specs.declared.option.Option.the-variants.{Some, None};
 ghost use Rattle.systems.specs.Actions.{has};
 ghost use Rattle.systems.specs.Meaning.{Between};
-ghost use Rattle.systems.specs.Piles.{pile, fitted, inside, Split, refusal, both, Room};
+ghost use Rattle.systems.specs.Piles.{pile, fitted, inside, Outside, Split, refusal, both, Room};
 use crate::system::System;
 use crate::actions::ActionSet;
 use crate::fault::Fault;
@@ -62,7 +61,7 @@ impl<U: System, L: System> Pile<U, L> {
 
     // The states of the two parts in a state of the pile.
     fn split(&self, state: u32) -> Option<(u32, u32)>
-        ensures { λ r. ⌜ BySome r (inside (now (self .entry) .states) (now (self .entry) .mass) (now (self .entry) .breadth) (pile (has (now (self .entry) .shared)) (U·System .meaning (now (self .entry) .upper)) (L·System .meaning (now (self .entry) .lower))) state ≡ false) (λ p. Split (has (now (self .entry) .shared)) (now (self .entry) .states) (now (self .entry) .mass) (now (self .entry) .breadth) (U·System .meaning (now (self .entry) .upper)) (L·System .meaning (now (self .entry) .lower)) state (p .0) (p .1)) ⌝ }
+        ensures { λ r. ⌜ BySome r (Outside (has (now (self .entry) .shared)) (now (self .entry) .states) (now (self .entry) .mass) (now (self .entry) .breadth) (U·System .meaning (now (self .entry) .upper)) (L·System .meaning (now (self .entry) .lower)) state) (λ p. Split (has (now (self .entry) .shared)) (now (self .entry) .states) (now (self .entry) .mass) (now (self .entry) .breadth) (U·System .meaning (now (self .entry) .upper)) (L·System .meaning (now (self .entry) .lower)) state (p .0) (p .1)) ⌝ }
     {
         if !self.has(state) {
             return None;

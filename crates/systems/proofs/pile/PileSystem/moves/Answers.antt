@@ -1,12 +1,11 @@
 use mathlib.Core.Path.{sym, ap}
 use native.Mathlib.Omega.{arith}
 use lib.ListN.{length}
-use Rattle.systems.specs.Actions.{has}
 use Rattle.systems.proofs.PiledCode.{moves-outside, count-shared, count-apart, few-shared}
 use Rattle.systems.proofs.pile.PileSystem.moves.Needs as need
 
 pub returns-in-rest : need.returns-in-rest
-returns-in-rest g c = sym (ap length (moves-outside (has (c .args .self .now .shared)) (c .args .self .now .states) (c .args .self .now .mass) (c .args .self .now .breadth) (g .U·System .meaning (c .args .self .now .upper)) (g .L·System .meaning (c .args .self .now .lower)) (c .args .state) (c .args .action) (c .in-rest .ensures tt)))
+returns-in-rest g c = sym (ap length (moves-outside (c .in-rest .ensures tt) (c .args .action)))
 
 pub mul-result : need.mul-result
 mul-result g c = omega (arith, few-shared (c .in-Some .ensures tt) (c .args .action) (c .moves-up .ensures) (c .moves-low .ensures))

@@ -3,13 +3,12 @@ use mathlib.Core.Path.{sym, ap}
 use mathlib.Core.List.{List, []}
 use lib.ListN.{getD}
 use Rattle.std.specs.shelf.Maps.{nth}
-use Rattle.systems.specs.Actions.{has}
 use Rattle.systems.specs.Meaning.{Move}
 use Rattle.systems.proofs.PiledCode.{moves-outside, no-move, no-target, target-shared, target-upper, target-lower, room-shared, room-upper, room-lower}
 use Rattle.systems.proofs.pile.PileSystem.target.Needs as need
 
 pub returns-in-rest : need.returns-in-rest
-returns-in-rest g c = sym (ap (λ (ms : List Move). nth (getD ms (c .args .mv) []) (c .args .index)) (moves-outside (has (c .args .self .now .shared)) (c .args .self .now .states) (c .args .self .now .mass) (c .args .self .now .breadth) (g .U·System .meaning (c .args .self .now .upper)) (g .L·System .meaning (c .args .self .now .lower)) (c .args .state) (c .args .action) (c .in-rest .ensures tt)))
+returns-in-rest g c = sym (ap (λ (ms : List Move). nth (getD ms (c .args .mv) []) (c .args .index)) (moves-outside (c .in-rest .ensures tt) (c .args .action)))
 
 pub returns-then-low-eq0 : need.returns-then-low-eq0
 returns-then-low-eq0 g c = sym (ap (λ (xs : Move). nth xs (c .args .index)) (no-move (c .in-Some .ensures tt) (c .args .action) (c .args .mv) (c .if-contains .ensures tt) (c .moves-low .ensures) (c .if-low-eq0 .taken)))
