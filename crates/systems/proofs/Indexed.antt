@@ -19,7 +19,7 @@ use Rattle.systems.specs.declared.records.MoveRecord.{MoveRecord}
 use Rattle.systems.specs.Meaning.{Meaning, Move, Sound, Good, Between, total}
 use Rattle.systems.specs.Tables.{every, asked, row, no-record, run, good-run, longest, table-meaning, cell-of}
 use Rattle.systems.specs.Mounts.{first-fault}
-use Rattle.systems.specs.Index.{listed, index-meaning, good-record, good-list, good-index, Grouped}
+use Rattle.systems.specs.Index.{listed, index-meaning, good-record, good-list, good-index, Listed, Grouped}
 use Rattle.systems.proofs.Runs.{aimed-run, length-run, nth-run, nth-run-past}
 use Rattle.systems.proofs.Mounted.{all-fine, all-sized, asked-all, few-all, none-past, none-acts}
 
@@ -113,12 +113,12 @@ pub in-range : (n : ℕ) (cells : List (List MoveRecord)) (k a : ℕ) → k < n 
 in-range n cells k a p q = cond-true (ltb k n && ltb a 32) (getD cells (cell-of k a) []) [] (and-from (ltb k n) (ltb a 32) (lt-ltb k n p) (lt-ltb a 32 q))
 
 -- the records of a state and an action, and the moves that they have
-module _ (n b : ℕ) (ts : List Target) (cells : List (List MoveRecord)) (good : good-index n b cells ts ≡ true) (k a : ℕ) (rows : List MoveRecord) (e : rows ≡ listed n cells k a) where
+module _ {n b : ℕ} {ts : List Target} {cells : List (List MoveRecord)} {k a : ℕ} {rows : List MoveRecord} (h : Listed n b ts cells k a rows) where
   pub few-rows : length rows ≤ b
-  few-rows = omega (arith, ap length e, few-listed n b ts cells good k a)
+  few-rows = omega (arith, ap length (h .is), few-listed n b ts cells (h .good) k a)
 
   pub count-rows : length rows ≡ length (map (run ts) (listed n cells k a))
-  count-rows = ap length e ∙ sym (length-map (listed n cells k a) (run ts))
+  count-rows = ap length (h .is) ∙ sym (length-map (listed n cells k a) (run ts))
 
   module _ (mv : ℕ) where
     pub no-move : length rows ≤ mv → getD (map (run ts) (listed n cells k a)) mv [] ≡ []
@@ -126,16 +126,16 @@ module _ (n b : ℕ) (ts : List Target) (cells : List (List MoveRecord)) (good :
 
     module _ (l : mv < length rows) where
       pub fit-row : Fit n b ts (getD rows mv no-record)
-      fit-row = subst (λ (xs : List MoveRecord). Fit n b ts (getD xs mv no-record)) (sym e) (fit-listed n b ts cells good k a mv no-record (omega (arith, ap length e)))
+      fit-row = subst (λ (xs : List MoveRecord). Fit n b ts (getD xs mv no-record)) (sym (h .is)) (fit-listed n b ts cells (h .good) k a mv no-record (omega (arith, ap length (h .is))))
 
       the-move : getD (map (run ts) (listed n cells k a)) mv [] ≡ run ts (getD rows mv no-record)
-      the-move = ap (λ (xs : List MoveRecord). getD (map (run ts) xs) mv []) (sym e) ∙ getD-map (run ts) rows mv no-record [] l
+      the-move = ap (λ (xs : List MoveRecord). getD (map (run ts) xs) mv []) (sym (h .is)) ∙ getD-map (run ts) rows mv no-record [] l
 
       pub count-targets : getD rows mv no-record .count ≡ length (getD (map (run ts) (listed n cells k a)) mv [])
       count-targets = sym (ap length the-move ∙ length-run ts (getD rows mv no-record) (fit-row .placed))
 
       pub target-at : (j : ℕ) (d : Target) → j < getD rows mv no-record .count → Some (getD ts (getD rows mv no-record .first + j) d) ≡ nth (getD (map (run ts) (listed n cells k a)) mv []) j
-      target-at j d h = sym (ap (λ (xs : Move). nth xs j) the-move ∙ nth-run ts (getD rows mv no-record) j d (fit-row .placed) h)
+      target-at j d l′ = sym (ap (λ (xs : Move). nth xs j) the-move ∙ nth-run ts (getD rows mv no-record) j d (fit-row .placed) l′)
 
       pub no-target : (j : ℕ) → getD rows mv no-record .count ≤ j → None ≡ nth (getD (map (run ts) (listed n cells k a)) mv []) j
       no-target j g = sym (ap (λ (xs : Move). nth xs j) the-move ∙ nth-run-past ts (getD rows mv no-record) j (fit-row .placed) g)

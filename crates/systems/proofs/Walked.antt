@@ -14,69 +14,56 @@ use Rattle.systems.specs.declared.fault.MountFault.the-variants.{Record, Weigh
 use Rattle.systems.specs.Meaning.{Move, total}
 use Rattle.systems.specs.Tables.{asked, no-record, row, run, fits-alone, good-run, longest, cell-of}
 use Rattle.systems.specs.Mounts.{few-enough, row-fault}
-use Rattle.systems.specs.Counts.{Counted}
+use Rattle.systems.specs.Counts.{Counted, Reached}
 use Rattle.systems.proofs.Runs.{asks-from, count-hit}
 use Rattle.systems.proofs.Mounted.{Alone, alone, Fine, fine, longest-more}
 use Rattle.systems.proofs.Tallied.{counted-more}
 
-module _ (n : ℕ) (rs : List MoveRecord) (i : ℕ) (counts : List ℕ) (hn : n ≤ 64) (l : i < length rs) (c : Counted rs i counts) where
+module _ {n : ℕ} {rs : List MoveRecord} {i : ℕ} {counts : List ℕ} (reached : Reached n rs i counts) (ts : List Target) {at : ℕ} (e : at ≡ cell-of (row rs i .state) (row rs i .action)) where
   -- with the record itself
-  one-more : row rs i .state < n → row rs i .action < 32 → getD counts (cell-of (row rs i .state) (row rs i .action)) 0 + 1 ≡ length (asked (row rs i .state) (row rs i .action) (take (i + 1) rs))
-  one-more hs ha =
+  own-count : Alone n (length ts) (row rs i) → getD counts at 0 + 1 ≡ length (asked (row rs i .state) (row rs i .action) (take (i + 1) rs))
+  own-count f =
       let k = row rs i .state in
       let a = row rs i .action in
-      count-hit k a rs i (getD counts (cell-of k a) 0) no-record l (c .each k a (omega arith) ha) (asks-from k a (row rs i) refl refl)
+      let hk : k < 64 = omega (arith, f .inside, reached .bound) in
+      ap (λ (x : ℕ). getD counts x 0 + 1) e
+      ∙ count-hit k a rs i (getD counts (cell-of k a) 0) no-record (reached .within) (reached .counted .each k a hk (f .act)) (asks-from k a (row rs i) refl refl)
 
-  module _ (ts : List Target) (at : ℕ) (e : at ≡ cell-of (row rs i .state) (row rs i .action)) where
-    module _ (fits : true ≡ fits-alone n (length ts) (row rs i)) where
-      pub fits-alone-too : Alone n (length ts) (row rs i)
-      fits-alone-too = alone n (length ts) (row rs i) (sym fits)
+  -- a record that keeps its own rules
+  module _ (fits : true ≡ fits-alone n (length ts) (row rs i)) where
+    fit : Alone n (length ts) (row rs i)
+    fit = alone n (length ts) (row rs i) (sym fits)
 
-      own-count : getD counts at 0 + 1 ≡ length (asked (row rs i .state) (row rs i .action) (take (i + 1) rs))
-      own-count = ap (λ (x : ℕ). getD counts x 0 + 1) e ∙ one-more (fits-alone-too .inside) (fits-alone-too .act)
+    pub too-many : 64 ≤ getD counts at 0 → Some (Record i) ≡ row-fault n rs ts i
+    too-many h = sym (cond-false _ _ _ (and-right (fits-alone n (length ts) (row rs i)) (few-enough rs i (row rs i)) (lt-leb (length (asked (row rs i .state) (row rs i .action) (take (i + 1) rs))) 64 (omega (arith, own-count fit)))))
 
-      pub place-within : at < length counts
-      place-within = omega (arith, e, c .whole, fits-alone-too .inside, fits-alone-too .act)
+    module _ (few : getD counts at 0 < 64) {list : Move} (is : list ≡ run ts (row rs i)) where
+      at-list : row-fault n rs ts i ≡ cond (good-run n list) (cond (eqb (total list) 1000) None (Some (Weights i))) (Some (Record i))
+      at-list =
+          cond-true _ _ _ (and-from (fits-alone n (length ts) (row rs i)) (few-enough rs i (row rs i)) (sym fits) (le-leb (length (asked (row rs i .state) (row rs i .action) (take (i + 1) rs))) 64 (omega (arith, own-count fit))))
+          ∙ ap (λ (mv : Move). cond (good-run n mv) (cond (eqb (total mv) 1000) None (Some (Weights i))) (Some (Record i))) (sym is)
 
-      pub too-many : 64 ≤ getD counts at 0 → Some (Record i) ≡ row-fault n rs ts i
-      too-many h = sym (cond-false _ _ _ (and-right (fits-alone n (length ts) (row rs i)) (few-enough rs i (row rs i)) (lt-leb (length (asked (row rs i .state) (row rs i .action) (take (i + 1) rs))) 64 (omega (arith, own-count)))))
+      pub short-list : length list ≤ 64
+      short-list = omega (arith, ap length is, length-take (row rs i .count) (drop (row rs i .first) ts), fit .small)
 
-      module _ (few : getD counts at 0 < 64) (list : Move) (is : list ≡ run ts (row rs i)) where
-        at-list : row-fault n rs ts i ≡ cond (good-run n list) (cond (eqb (total list) 1000) None (Some (Weights i))) (Some (Record i))
-        at-list =
-            cond-true _ _ _ (and-from (fits-alone n (length ts) (row rs i)) (few-enough rs i (row rs i)) (sym fits) (le-leb (length (asked (row rs i .state) (row rs i .action) (take (i + 1) rs))) 64 (omega (arith, own-count))))
-            ∙ ap (λ (mv : Move). cond (good-run n mv) (cond (eqb (total mv) 1000) None (Some (Weights i))) (Some (Record i))) (sym is)
+      pub light-list : true ≡ good-run n list → (total list ≡ 1000 → ⊥) → Some (Weights i) ≡ row-fault n rs ts i
+      light-list g ne = sym (at-list ∙ cond-true _ _ _ (sym g) ∙ cond-false _ _ _ (ne-eqb (total list) 1000 ne))
 
-        pub short-list : length list ≤ 64
-        short-list = omega (arith, ap length is, length-take (row rs i .count) (drop (row rs i .first) ts), fits-alone-too .small)
+      pub right-list : true ≡ good-run n list → total list ≡ 1000 → None ≡ row-fault n rs ts i
+      right-list g eq = sym (at-list ∙ cond-true _ _ _ (sym g) ∙ cond-true _ _ _ (eq-eqb (total list) 1000 eq))
 
-        pub bad-list : false ≡ good-run n list → Some (Record i) ≡ row-fault n rs ts i
-        bad-list b = sym (at-list ∙ cond-false _ _ _ (sym b))
+  -- a record with no fault is counted
+  module _ (ok : None ≡ row-fault n rs ts i) where
+    right : Fine n rs ts i
+    right = fine n rs ts i (sym ok)
 
-        pub light-list : true ≡ good-run n list → (total list ≡ 1000 → ⊥) → Some (Weights i) ≡ row-fault n rs ts i
-        light-list g ne = sym (at-list ∙ cond-true _ _ _ (sym g) ∙ cond-false _ _ _ (ne-eqb (total list) 1000 ne))
+    pub count-small : getD counts at 0 + 1 ≤ 64
+    count-small = omega (arith, own-count (right .alone-fits), right .few)
 
-        pub right-list : true ≡ good-run n list → total list ≡ 1000 → None ≡ row-fault n rs ts i
-        right-list g eq = sym (at-list ∙ cond-true _ _ _ (sym g) ∙ cond-true _ _ _ (eq-eqb (total list) 1000 eq))
+    pub counted-right : Counted rs (i + 1) (set counts at (getD counts at 0 + 1))
+    counted-right =
+        subst (λ (x : ℕ). Counted rs (i + 1) (set counts x (getD counts x 0 + 1))) (sym e)
+        (counted-more rs i (reached .within) (right .alone-fits .act) counts (omega (arith, right .alone-fits .inside, reached .bound)) (reached .counted))
 
-    -- a record with no fault is counted
-    module _ (ok : None ≡ row-fault n rs ts i) where
-      right : Fine n rs ts i
-      right = fine n rs ts i (sym ok)
-
-      own-right : getD counts at 0 + 1 ≡ length (asked (row rs i .state) (row rs i .action) (take (i + 1) rs))
-      own-right = ap (λ (x : ℕ). getD counts x 0 + 1) e ∙ one-more (right .alone-fits .inside) (right .alone-fits .act)
-
-      pub count-small : getD counts at 0 + 1 ≤ 64
-      count-small = omega (arith, own-right, right .few)
-
-      pub right-within : at < length counts
-      right-within = omega (arith, e, c .whole, right .alone-fits .inside, right .alone-fits .act)
-
-      pub counted-right : Counted rs (i + 1) (set counts at (getD counts at 0 + 1))
-      counted-right =
-          subst (λ (x : ℕ). Counted rs (i + 1) (set counts x (getD counts x 0 + 1))) (sym e)
-          (counted-more rs i l (right .alone-fits .act) counts (omega (arith, right .alone-fits .inside)) c)
-
-      pub longest-right : (b b′ : ℕ) → b ≡ longest rs i → b′ ≡ max (max b (row rs i .count)) (getD counts at 0 + 1) → b′ ≡ longest rs (i + 1)
-      longest-right b b′ eb eb′ = omega (arith, eb, eb′, own-right, longest-more rs i)
+    pub longest-right : {b b′ : ℕ} → b ≡ longest rs i → b′ ≡ max (max b (row rs i .count)) (getD counts at 0 + 1) → b′ ≡ longest rs (i + 1)
+    longest-right eb eb′ = omega (arith, eb, eb′, own-count (right .alone-fits), longest-more rs i)

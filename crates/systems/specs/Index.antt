@@ -1,7 +1,7 @@
 -- What an index of moves means: for each state and action the records, one list after another.
 use Prim.Native.Nat.{ℕ, _+_, _*_, _<_}
 use mathlib.Core.Path.{_≡_}
-use mathlib.Core.Bool.{Bool, _&&_, cond}
+use mathlib.Core.Bool.{Bool, true, _&&_, cond}
 use mathlib.Core.List.{List, [], map}
 use lib.Dec.{eqb, ltb, leb}
 use lib.ListN.{length, getD, take}
@@ -31,6 +31,11 @@ good-list n b ts rs = leb (length rs) b && every (good-record n b ts) rs
 
 abbrev pub good-index : ℕ → ℕ → List (List MoveRecord) → List Target → Bool
 good-index n b cells ts = every (good-list n b ts) cells
+
+-- rows are the records of a state and an action in a good index
+pub record Listed (n b : ℕ) (ts : List Target) (cells : List (List MoveRecord)) (k a : ℕ) (rows : List MoveRecord) : Type 0 where
+  pub is : rows ≡ listed n cells k a
+  pub good : good-index n b cells ts ≡ true
 
 -- the first i records, each in the list of its state and action
 pub record Grouped (n : ℕ) (rs : List MoveRecord) (i : ℕ) (cells : List (List MoveRecord)) : Type 0 where

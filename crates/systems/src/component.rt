@@ -9,7 +9,7 @@ ghost use Rattle.std.specs.Results.{isOk};
 ghost use Rattle.std.specs.Vec.{made};
 ghost use Rattle.std.specs.declared.option.Option.the-variants.{None};
 ghost use Rattle.std.specs.declared.result.Result.the-variants.{Ok, Err};
-ghost use Rattle.systems.specs.Index.{index-meaning, listed, good-index, Grouped};
+ghost use Rattle.systems.specs.Index.{index-meaning, good-index, Listed, Grouped};
 ghost use Rattle.systems.specs.Meaning.{Between};
 ghost use Rattle.systems.specs.Mounts.{mount-fault, blamed};
 ghost use Rattle.systems.specs.Tables.{table-meaning};
@@ -84,7 +84,7 @@ impl Component {
 
     // The records of a state and an action.
     fn listed(&self, state: u32, action: u32) -> &[MoveRecord]
-        ensures { λ r. ⌜ now r ≡ listed (now (self .entry) .states) (map vec-items (vec-items (now (self .entry) .cells))) state action ⌝ }
+        ensures { λ r. ⌜ Listed (now (self .entry) .states) (now (self .entry) .breadth) (vec-items (now (self .entry) .targets)) (map vec-items (vec-items (now (self .entry) .cells))) state action (now r) ⌝ }
     {
         if state >= self.states || action >= 32 {
             return &[];

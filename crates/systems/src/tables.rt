@@ -7,7 +7,7 @@ ghost use Rattle.std.specs.declared.result.Result.the-variants.{Ok, Err};
 ghost use Rattle.systems.specs.Meaning.{total};
 ghost use Rattle.systems.specs.Tables.{cell-of, fits-alone, good-run, longest};
 ghost use Rattle.systems.specs.Mounts.{row-fault, first-fault, mount-fault, blamed};
-ghost use Rattle.systems.specs.Counts.{Counted};
+ghost use Rattle.systems.specs.Counts.{Reached};
 use crate::fault::MountFault;
 use crate::records::MoveRecord;
 use crate::system::Target;
@@ -68,9 +68,7 @@ fn weigh(list: &[Target]) -> u128
 
 // What is wrong with the record at a place, where `earlier` counts the records before it.
 fn fault_at(states: u32, rows: &[MoveRecord], targets: &[Target], earlier: &[u8], i: u32) -> Option<MountFault>
-    requires within { ⌜ i < length (now rows) ⌝ }
-    requires bound { ⌜ states ≤ 64 ⌝ }
-    requires counted { ⌜ Counted (now rows) i (now earlier) ⌝ }
+    requires { ⌜ Reached states (now rows) i (now earlier) ⌝ }
     ensures { λ r. ⌜ r ≡ row-fault states (now (rows .entry)) (now (targets .entry)) i ⌝ }
 {
     let r = rows[i as usize];
