@@ -19,8 +19,7 @@ use Rattle.std.proofs.shelf.Bits.{le-div, div-below, mod-below}
 use Rattle.std.proofs.shelf.Elements.{all-getD}
 use Rattle.std.proofs.shelf.Sums.{getD-le-sumBy}
 use Rattle.systems.specs.declared.system.Target.{Target}
-use Rattle.systems.specs.Actions.{shared-in}
-use Rattle.systems.specs.Meaning.{Meaning, Move, Sound, Good, Aimed, point, total}
+use Rattle.systems.specs.Meaning.{Meaning, Move, Ruled, Good, Aimed, point, total}
 use Rattle.systems.specs.Piles.{cross, over, pair, moves-over, pile-moves, pile, both}
 use Rattle.systems.proofs.Cross.{length-cross, getD-cross}
 
@@ -55,33 +54,33 @@ pub nil-cross : {X Y Z : Type 0} (f : X → Y → Z) (ys : List Y) → cross f [
 unfolding cross
 nil-cross f ys = refl
 
-module _ (bits : ℕ) (U L : Meaning) where
-  pub inside-moves : (k a : ℕ) → k < U .states * L .states → pile-moves bits U L k a ≡ moves-over bits U L (k / L .states) (k % L .states) a
+module _ (A : ℕ → Bool) (U L : Meaning) where
+  pub inside-moves : (k a : ℕ) → k < U .states * L .states → pile-moves A U L k a ≡ moves-over A U L (k / L .states) (k % L .states) a
   unfolding pile-moves
   inside-moves k a h = cond-true _ _ _ (lt-ltb k (U .states * L .states) h)
 
-  pub outside-moves : (k a : ℕ) → U .states * L .states ≤ k → pile-moves bits U L k a ≡ []
+  pub outside-moves : (k a : ℕ) → U .states * L .states ≤ k → pile-moves A U L k a ≡ []
   unfolding pile-moves
   outside-moves k a h = cond-false _ _ _ (le-ltb k (U .states * L .states) h)
 
   module _ (u v a : ℕ) where
-    pub shared-moves : shared-in bits a ≡ true → moves-over bits U L u v a ≡ cross (pair (L .states)) (U .moves u a) (L .moves v a)
+    pub shared-moves : A a ≡ true → moves-over A U L u v a ≡ cross (pair (L .states)) (U .moves u a) (L .moves v a)
     unfolding moves-over
     shared-moves e = cond-true _ _ _ e
 
-    pub apart-moves : shared-in bits a ≡ false → moves-over bits U L u v a ≡ map (λ mu. pair (L .states) mu (point L v)) (U .moves u a) ++ map (pair (L .states) (point U u)) (L .moves v a)
+    pub apart-moves : A a ≡ false → moves-over A U L u v a ≡ map (λ mu. pair (L .states) mu (point L v)) (U .moves u a) ++ map (pair (L .states) (point U u)) (L .moves v a)
     unfolding moves-over
     apart-moves e = cond-false _ _ _ e
 
-    pub shared-count : shared-in bits a ≡ true → length (moves-over bits U L u v a) ≡ length (U .moves u a) * length (L .moves v a)
+    pub shared-count : A a ≡ true → length (moves-over A U L u v a) ≡ length (U .moves u a) * length (L .moves v a)
     shared-count e = ap length (shared-moves e) ∙ length-cross (pair (L .states)) (U .moves u a) (L .moves v a)
 
-    pub apart-count : shared-in bits a ≡ false → length (moves-over bits U L u v a) ≡ length (U .moves u a) + length (L .moves v a)
+    pub apart-count : A a ≡ false → length (moves-over A U L u v a) ≡ length (U .moves u a) + length (L .moves v a)
     apart-count e =
         ap length (apart-moves e) ∙ length-append (map (λ mu. pair (L .states) mu (point L v)) (U .moves u a)) (map (pair (L .states) (point U u)) (L .moves v a))
         ∙ omega (arith, length-map (U .moves u a) (λ mu. pair (L .states) mu (point L v)), length-map (L .moves v a) (pair (L .states) (point U u)))
 
-    pub shared-move : (i : ℕ) → shared-in bits a ≡ true → 0 < length (L .moves v a) → getD (moves-over bits U L u v a) i [] ≡ pair (L .states) (getD (U .moves u a) (i / length (L .moves v a)) []) (getD (L .moves v a) (i % length (L .moves v a)) [])
+    pub shared-move : (i : ℕ) → A a ≡ true → 0 < length (L .moves v a) → getD (moves-over A U L u v a) i [] ≡ pair (L .states) (getD (U .moves u a) (i / length (L .moves v a)) []) (getD (L .moves v a) (i % length (L .moves v a)) [])
     shared-move i e pos = rw (shared-moves e) (go (cases-lt i (length (U .moves u a) * length (L .moves v a))))
       where
         go : (i < length (U .moves u a) * length (L .moves v a)) ⊎ (length (U .moves u a) * length (L .moves v a) ≤ i) → getD (cross (pair (L .states)) (U .moves u a) (L .moves v a)) i [] ≡ pair (L .states) (getD (U .moves u a) (i / length (L .moves v a)) []) (getD (L .moves v a) (i % length (L .moves v a)) [])
@@ -91,12 +90,12 @@ module _ (bits : ℕ) (U L : Meaning) where
             let q : length (U .moves u a) ≤ i / length (L .moves v a) = le-div (length (U .moves u a)) i (length (L .moves v a)) pos g in
             getD-past (cross (pair (L .states)) (U .moves u a) (L .moves v a)) i [] g′ ∙ rw (getD-past (U .moves u a) (i / length (L .moves v a)) [] q) (sym (nil-cross (over (L .states)) (getD (L .moves v a) (i % length (L .moves v a)) [])))
 
-    pub upper-move : (i : ℕ) → shared-in bits a ≡ false → i < length (U .moves u a) → getD (moves-over bits U L u v a) i [] ≡ pair (L .states) (getD (U .moves u a) i []) (point L v)
+    pub upper-move : (i : ℕ) → A a ≡ false → i < length (U .moves u a) → getD (moves-over A U L u v a) i [] ≡ pair (L .states) (getD (U .moves u a) i []) (point L v)
     upper-move i e l =
         let l′ : i < length (map (λ mu. pair (L .states) mu (point L v)) (U .moves u a)) = omega (arith, length-map (U .moves u a) (λ mu. pair (L .states) mu (point L v))) in
         rw (apart-moves e) (getD-append-left (map (λ mu. pair (L .states) mu (point L v)) (U .moves u a)) (map (pair (L .states) (point U u)) (L .moves v a)) [] i l′ ∙ getD-map (λ mu. pair (L .states) mu (point L v)) (U .moves u a) i [] [] l)
 
-    pub lower-move : (i : ℕ) → shared-in bits a ≡ false → length (U .moves u a) ≤ i → getD (moves-over bits U L u v a) i [] ≡ pair (L .states) (point U u) (getD (L .moves v a) (i - length (U .moves u a)) [])
+    pub lower-move : (i : ℕ) → A a ≡ false → length (U .moves u a) ≤ i → getD (moves-over A U L u v a) i [] ≡ pair (L .states) (point U u) (getD (L .moves v a) (i - length (U .moves u a)) [])
     lower-move i e g =
         rw (apart-moves e)
         (getD-append-right (map (λ mu. pair (L .states) mu (point L v)) (U .moves u a)) (map (pair (L .states) (point U u)) (L .moves v a)) (length (U .moves u a)) i [] (length-map (U .moves u a) (λ mu. pair (L .states) mu (point L v))) g
@@ -108,6 +107,6 @@ module _ (bits : ℕ) (U L : Meaning) where
             getD-past (map (pair (L .states) (point U u)) (L .moves v a)) (i - length (U .moves u a)) [] (omega (arith, length-map (L .moves v a) (pair (L .states) (point U u))))
             ∙ rw (getD-past (L .moves v a) (i - length (U .moves u a)) [] g′) (sym (cross-nil (over (L .states)) (point U u)))
 
--- what a target of a sound system keeps to
-pub good-move : (S : Meaning) → Sound S → (k a i : ℕ) → i < length (S .moves k a) → Good (S .states) (S .mass) (S .breadth) (getD (S .moves k a) i [])
+-- what a target of a ruled system keeps to
+pub good-move : (S : Meaning) → Ruled S → (k a i : ℕ) → i < length (S .moves k a) → Good (S .states) (S .mass) (S .breadth) (getD (S .moves k a) i [])
 good-move S s k a i h = all-getD (Good (S .states) (S .mass) (S .breadth)) (S .moves k a) i [] h (s .each k a)

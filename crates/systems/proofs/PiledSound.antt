@@ -1,4 +1,4 @@
--- A pile of two sound systems is sound, where its numbers keep to the limits.
+-- A pile of two systems that keep the rules keeps them.
 use Prim.Native.Nat.{ℕ, zero, suc, _+_, _*_, _/_, _%_, _-_, _≤_, _<_}
 use mathlib.Core.Path.{_≡_, refl, sym, ap, ap₂, subst, _∙_}
 use mathlib.Core.List.{List, [], _∷_, _++_, map}
@@ -14,8 +14,7 @@ use Rattle.std.proofs.shelf.Tests.{cases-lt, cases-bool, cond-true, cond-false,
 use Rattle.std.proofs.shelf.Bits.{div-below, mod-below}
 use Rattle.std.proofs.shelf.Elements.{all-append, all-map, all-weaker}
 use Rattle.systems.specs.declared.system.Target.{Target}
-use Rattle.systems.specs.Actions.{shared-in}
-use Rattle.systems.specs.Meaning.{Meaning, Move, Sound, Good, Aimed, point, total}
+use Rattle.systems.specs.Meaning.{Meaning, Move, Ruled, Sound, Between, Good, Aimed, point, total}
 use Rattle.systems.specs.Piles.{cross, over, pair, moves-over, pile-moves, pile, fitted, agrees}
 use Rattle.systems.proofs.Cross.{length-cross, all-cross, sum-cross, pos-right}
 use Rattle.systems.proofs.Piled.{inside-moves, outside-moves, shared-moves, apart-moves, shared-count, apart-count, nil-cross}
@@ -29,7 +28,7 @@ sum-le-product a b x y ha hb hx hy =
 pub product-le : (a b x y : ℕ) → x ≤ a → y ≤ b → x * y ≤ a * b
 product-le a b x y hx hy = mul-le-mul hx hy
 
-pub good-point : (S : Meaning) → Sound S → (k : ℕ) → k < S .states → Good (S .states) (S .mass) (S .breadth) (point S k)
+pub good-point : (S : Meaning) → Ruled S → (k : ℕ) → k < S .states → Good (S .states) (S .mass) (S .breadth) (point S k)
 good-point S s k h = record
   { short = omega (arith, s .breadth-low)
   ; aimed = (record { inside = h; heavy = s .mass-low }, tt)
@@ -49,33 +48,33 @@ module _ (U L : Meaning) where
         ∙ ap₂ _*_ (g .whole) (h .whole)
     }
 
-module _ (bits : ℕ) (U L : Meaning) (su : Sound U) (sl : Sound L) where
-  no-moves : (u v a : ℕ) → 32 ≤ a → moves-over bits U L u v a ≡ []
-  no-moves u v a h = go (cases-bool (shared-in bits a))
+module _ (A : ℕ → Bool) (U L : Meaning) (su : Ruled U) (sl : Ruled L) where
+  no-moves : (u v a : ℕ) → 32 ≤ a → moves-over A U L u v a ≡ []
+  no-moves u v a h = go (cases-bool (A a))
     where
-      go : (shared-in bits a ≡ true) ⊎ (shared-in bits a ≡ false) → moves-over bits U L u v a ≡ []
-      go (inl e) = rw (shared-moves bits U L u v a e, su .past-actions u a h) (nil-cross (pair (L .states)) (L .moves v a))
-      go (inr e) = rw (apart-moves bits U L u v a e, su .past-actions u a h, sl .past-actions v a h) refl
+      go : (A a ≡ true) ⊎ (A a ≡ false) → moves-over A U L u v a ≡ []
+      go (inl e) = rw (shared-moves A U L u v a e, su .past-actions u a h) (nil-cross (pair (L .states)) (L .moves v a))
+      go (inr e) = rw (apart-moves A U L u v a e, su .past-actions u a h, sl .past-actions v a h) refl
 
-  few-moves : (u v a : ℕ) → length (moves-over bits U L u v a) ≤ U .breadth * L .breadth
-  few-moves u v a = go (cases-bool (shared-in bits a))
+  few-moves : (u v a : ℕ) → length (moves-over A U L u v a) ≤ U .breadth * L .breadth
+  few-moves u v a = go (cases-bool (A a))
     where
-      go : (shared-in bits a ≡ true) ⊎ (shared-in bits a ≡ false) → length (moves-over bits U L u v a) ≤ U .breadth * L .breadth
-      go (inl e) = rw (shared-count bits U L u v a e) (mul-le-mul (su .few u a) (sl .few v a))
-      go (inr e) = rw (apart-count bits U L u v a e) (sum-le-product (U .breadth) (L .breadth) (length (U .moves u a)) (length (L .moves v a)) (su .breadth-low) (sl .breadth-low) (su .few u a) (sl .few v a))
+      go : (A a ≡ true) ⊎ (A a ≡ false) → length (moves-over A U L u v a) ≤ U .breadth * L .breadth
+      go (inl e) = rw (shared-count A U L u v a e) (mul-le-mul (su .few u a) (sl .few v a))
+      go (inr e) = rw (apart-count A U L u v a e) (sum-le-product (U .breadth) (L .breadth) (length (U .moves u a)) (length (L .moves v a)) (su .breadth-low) (sl .breadth-low) (su .few u a) (sl .few v a))
 
-  good-moves : (u v a : ℕ) → u < U .states → v < L .states → All (Good (U .states * L .states) (U .mass * L .mass) (U .breadth * L .breadth)) (moves-over bits U L u v a)
-  good-moves u v a hu hv = go (cases-bool (shared-in bits a))
+  good-moves : (u v a : ℕ) → u < U .states → v < L .states → All (Good (U .states * L .states) (U .mass * L .mass) (U .breadth * L .breadth)) (moves-over A U L u v a)
+  good-moves u v a hu hv = go (cases-bool (A a))
     where
       G : Move → Type 0
       G mv = Good (U .states * L .states) (U .mass * L .mass) (U .breadth * L .breadth) mv
-      go : (shared-in bits a ≡ true) ⊎ (shared-in bits a ≡ false) → All (Good (U .states * L .states) (U .mass * L .mass) (U .breadth * L .breadth)) (moves-over bits U L u v a)
+      go : (A a ≡ true) ⊎ (A a ≡ false) → All (Good (U .states * L .states) (U .mass * L .mass) (U .breadth * L .breadth)) (moves-over A U L u v a)
       go (inl e) =
-          rw (shared-moves bits U L u v a e)
+          rw (shared-moves A U L u v a e)
           (all-cross (pair (L .states)) (Good (U .states) (U .mass) (U .breadth)) (Good (L .states) (L .mass) (L .breadth)) (Good (U .states * L .states) (U .mass * L .mass) (U .breadth * L .breadth))
           (good-pair U L) (U .moves u a) (L .moves v a) (su .each u a) (sl .each v a))
       go (inr e) =
-          rw (apart-moves bits U L u v a e)
+          rw (apart-moves A U L u v a e)
           (all-append (Good (U .states * L .states) (U .mass * L .mass) (U .breadth * L .breadth))
           (map (λ mu. pair (L .states) mu (point L v)) (U .moves u a)) (map (pair (L .states) (point U u)) (L .moves v a))
           (all-map (Good (U .states * L .states) (U .mass * L .mass) (U .breadth * L .breadth)) (λ mu. pair (L .states) mu (point L v)) (U .moves u a)
@@ -93,22 +92,19 @@ module _ (bits : ℕ) (U L : Meaning) (su : Sound U) (sl : Sound L) where
   lower-below k = mod-below k (L .states) lower-some
 
   -- a fact of moves that holds inside and of none
-  by-range : (P : List Move → Type 0) (k a : ℕ) → (k < U .states * L .states → P (moves-over bits U L (k / L .states) (k % L .states) a)) → P [] → P (pile-moves bits U L k a)
+  by-range : (P : List Move → Type 0) (k a : ℕ) → (k < U .states * L .states → P (moves-over A U L (k / L .states) (k % L .states) a)) → P [] → P (pile-moves A U L k a)
   by-range P k a inside outside = go (cases-lt k (U .states * L .states))
     where
-      go : (k < U .states * L .states) ⊎ (U .states * L .states ≤ k) → P (pile-moves bits U L k a)
-      go (inl l) = subst P (sym (inside-moves bits U L k a l)) (inside l)
-      go (inr g) = subst P (sym (outside-moves bits U L k a g)) outside
+      go : (k < U .states * L .states) ⊎ (U .states * L .states ≤ k) → P (pile-moves A U L k a)
+      go (inl l) = subst P (sym (inside-moves A U L k a l)) (inside l)
+      go (inr g) = subst P (sym (outside-moves A U L k a g)) outside
 
-  pub sound-pile : U .states * L .states ≤ 1073741824 → U .mass * L .mass ≤ 1000000000000000 → U .breadth * L .breadth ≤ 1073741824 → Sound (pile bits U L)
-  sound-pile hn hm hb = record
+  pub ruled-pile : Ruled (pile A U L)
+  ruled-pile = record
     { states-low = one-le-mul (su .states-low) (sl .states-low)
-    ; states-high = hn
     ; mass-low = one-le-mul (su .mass-low) (sl .mass-low)
-    ; mass-high = hm
     ; breadth-low = sum-le-product (U .breadth) (L .breadth) 0 2 (su .breadth-low) (sl .breadth-low) (omega arith) (sl .breadth-low)
-    ; breadth-high = hb
-    ; past-states = outside-moves bits U L
+    ; past-states = outside-moves A U L
     ; past-actions = λ k a h. by-range (λ ms. ms ≡ []) k a (λ _. no-moves (k / L .states) (k % L .states) a h) refl
     ; few = λ k a. by-range (λ ms. length ms ≤ U .breadth * L .breadth) k a (λ _. few-moves (k / L .states) (k % L .states) a) (omega arith)
     ; each = λ k a. by-range (All (Good (U .states * L .states) (U .mass * L .mass) (U .breadth * L .breadth))) k a (λ h. good-moves (k / L .states) (k % L .states) a (upper-below k h) (lower-below k)) tt
@@ -134,14 +130,11 @@ same-numbers n m b S e =
     let q = and-parts (eqb (S .mass) m) (eqb (S .breadth) b) (p .1) in
     record { states-same = eqb-true (S .states) n (p .0); mass-same = eqb-true (S .mass) m (q .0); breadth-same = eqb-true (S .breadth) b (q .1) }
 
-pub sound-fitted : (n m b : ℕ) (S : Meaning) → 1 ≤ n → n ≤ 1073741824 → 1 ≤ m → m ≤ 1000000000000000 → 2 ≤ b → b ≤ 1073741824 → (agrees n m b S ≡ true → Sound S) → Sound (fitted n m b S)
-sound-fitted n m b S n1 n2 m1 m2 b1 b2 s = record
+pub ruled-fitted : (n m b : ℕ) (S : Meaning) → 1 ≤ n → 1 ≤ m → 2 ≤ b → (agrees n m b S ≡ true → Ruled S) → Ruled (fitted n m b S)
+ruled-fitted n m b S n1 m1 b1 s = record
   { states-low = n1
-  ; states-high = n2
   ; mass-low = m1
-  ; mass-high = m2
   ; breadth-low = b1
-  ; breadth-high = b2
   ; past-states = λ k a h. fitted-by n m b S (λ ms. ms ≡ []) k a (λ e. s e .past-states k a (omega (arith, same-numbers n m b S e .states-same))) refl
   ; past-actions = λ k a h. fitted-by n m b S (λ ms. ms ≡ []) k a (λ e. s e .past-actions k a h) refl
   ; few = λ k a. fitted-by n m b S (λ ms. length ms ≤ b) k a (λ e. subst (λ (x : ℕ). length (S .moves k a) ≤ x) (same-numbers n m b S e .breadth-same) (s e .few k a)) (omega arith)
@@ -154,9 +147,9 @@ sound-fitted n m b S n1 n2 m1 m2 b1 b2 s = record
         (subst (λ (y : ℕ). All (Good (S .states) y b) (S .moves k a)) (same-numbers n m b S e .mass-same)
         (subst (λ (z : ℕ). All (Good (S .states) (S .mass) z) (S .moves k a)) (same-numbers n m b S e .breadth-same) (s e .each k a)))
 
--- a fitted pile is sound with no condition on the pile
-pub sound-piled : (bits n m b : ℕ) (U L : Meaning) → Sound U → Sound L → 1 ≤ n → n ≤ 1073741824 → 1 ≤ m → m ≤ 1000000000000000 → 2 ≤ b → b ≤ 1073741824 → Sound (fitted n m b (pile bits U L))
-sound-piled bits n m b U L su sl n1 n2 m1 m2 b1 b2 =
-    sound-fitted n m b (pile bits U L) n1 n2 m1 m2 b1 b2
-    (λ e. let q = same-numbers n m b (pile bits U L) e in
-      sound-pile bits U L su sl (omega (arith, q .states-same)) (omega (arith, q .mass-same)) (omega (arith, q .breadth-same)))
+-- a fitted pile keeps the rules with no condition on the pile, and the limits where its own numbers do
+pub sound-piled : (A : ℕ → Bool) (n m b : ℕ) (U L : Meaning) → Ruled U → Ruled L → Between 1 1073741824 n → Between 1 1000000000000000 m → Between 2 1073741824 b → Sound (fitted n m b (pile A U L))
+sound-piled A n m b U L ru rl hn hm hb = record
+  { ruled = ruled-fitted n m b (pile A U L) (hn .0) (hm .0) (hb .0) (λ e. ruled-pile A U L ru rl)
+  ; limited = record { states-high = hn .1; mass-high = hm .1; breadth-high = hb .1 }
+  }

@@ -67,16 +67,16 @@ module _ (n b : ℕ) (rs : List MoveRecord) (ts : List Target) (inside : Inside 
 
   pub sound-tables : 1 ≤ n → n ≤ 64 → 2 ≤ b → b ≤ 64 → Sound (table-meaning n b rs ts)
   sound-tables n1 n2 b1 b2 = record
-    { states-low = n1
-    ; states-high = omega arith
-    ; mass-low = omega arith
-    ; mass-high = omega arith
-    ; breadth-low = b1
-    ; breadth-high = omega arith
-    ; past-states = λ k a h. ap (map (run ts)) (none-past k a h)
-    ; past-actions = λ k a h. ap (map (run ts)) (none-acts k a h)
-    ; few = λ k a. omega (arith, length-map (asked k a rs) (run ts), few k a)
-    ; each = λ k a. all-map (Good n 1000 b) (run ts) (asked k a rs) (all-kept-by (asks k a) (λ r. Good n 1000 b (run ts r)) rs (each-record (λ r. Good n 1000 b (run ts r)) rs good-record))
+    { ruled = record
+      { states-low = n1
+      ; mass-low = omega arith
+      ; breadth-low = b1
+      ; past-states = λ k a h. ap (map (run ts)) (none-past k a h)
+      ; past-actions = λ k a h. ap (map (run ts)) (none-acts k a h)
+      ; few = λ k a. omega (arith, length-map (asked k a rs) (run ts), few k a)
+      ; each = λ k a. all-map (Good n 1000 b) (run ts) (asked k a rs) (all-kept-by (asks k a) (λ r. Good n 1000 b (run ts r)) rs (each-record (λ r. Good n 1000 b (run ts r)) rs good-record))
+      }
+    ; limited = record { states-high = omega arith; mass-high = omega arith; breadth-high = omega arith }
     }
 
 -- the search for the record of a move

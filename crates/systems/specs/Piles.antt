@@ -1,4 +1,4 @@
--- What a pile means: one system over another, with a shared set of actions.
+-- What a pile means: one system over another, with a shared set of actions A.
 use Prim.Native.Nat.{ℕ, _+_, _*_, _/_, _%_, _≤_}
 use mathlib.Core.List.{List, [], _∷_, _++_, map}
 use mathlib.Core.Bool.{Bool, _&&_, _||_, cond}
@@ -8,7 +8,6 @@ use Rattle.systems.specs.declared.fault.Fault.{Fault}
 use Rattle.systems.specs.declared.fault.Fault.the-variants.{Size, Mass}
 use lib.Dec.{eqb, ltb}
 use Rattle.systems.specs.declared.system.Target.{Target}
-use Rattle.systems.specs.Actions.{shared-in}
 use Rattle.systems.specs.Meaning.{Meaning, Move, point}
 
 -- f of each of the first with each of the second, the first counted slowest
@@ -24,22 +23,22 @@ abbrev pub pair : ℕ → Move → Move → Move
 pair k mu ml = cross (over k) mu ml
 
 -- the moves of u over v
-unfoldable pub moves-over : ℕ → Meaning → Meaning → ℕ → ℕ → ℕ → List Move
-moves-over bits U L u v a =
-    cond (shared-in bits a)
+unfoldable pub moves-over : (ℕ → Bool) → Meaning → Meaning → ℕ → ℕ → ℕ → List Move
+moves-over A U L u v a =
+    cond (A a)
     (cross (pair (L .states)) (U .moves u a) (L .moves v a))
     (map (λ mu. pair (L .states) mu (point L v)) (U .moves u a) ++ map (pair (L .states) (point U u)) (L .moves v a))
 
-unfoldable pub pile-moves : ℕ → Meaning → Meaning → ℕ → ℕ → List Move
-pile-moves bits U L k a =
-    cond (ltb k (U .states * L .states)) (moves-over bits U L (k / L .states) (k % L .states) a) []
+unfoldable pub pile-moves : (ℕ → Bool) → Meaning → Meaning → ℕ → ℕ → List Move
+pile-moves A U L k a =
+    cond (ltb k (U .states * L .states)) (moves-over A U L (k / L .states) (k % L .states) a) []
 
-abbrev pub pile : ℕ → Meaning → Meaning → Meaning
-pile bits U L = record
+abbrev pub pile : (ℕ → Bool) → Meaning → Meaning → Meaning
+pile A U L = record
   { states = U .states * L .states
   ; mass = U .mass * L .mass
   ; breadth = U .breadth * L .breadth
-  ; moves = pile-moves bits U L
+  ; moves = pile-moves A U L
   }
 
 -- s, if it has these numbers; else a system that has them, and no moves

@@ -1,4 +1,5 @@
 // The empty system of a shared set.
+ghost use Rattle.systems.specs.Actions.{has};
 ghost use Rattle.systems.specs.Kinds.{empty-meaning};
 use crate::system::System;
 use crate::actions::ActionSet;
@@ -10,7 +11,7 @@ pub struct Empty {
 }
 
 pub impl System for Empty as EmptySystem {
-    ghost meaning = { λ e. empty-meaning (e .shared .bits) };
+    ghost meaning = { λ e. empty-meaning (has (e .shared)) };
 
     fn states(&self) -> u32 {
         1

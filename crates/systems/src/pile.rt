@@ -3,6 +3,7 @@ ghost use mathlib.Core.Path.{_≡_};
 ghost use Prim.Native.Nat.{_≤_};
 ghost use Rattle.std.specs.declared.result.Result.the-variants.{Ok, Err};
 ghost use Rattle.std.specs.declared.option.Option.the-variants.{Some, None};
+ghost use Rattle.systems.specs.Actions.{has};
 ghost use Rattle.systems.specs.Meaning.{Between};
 ghost use Rattle.systems.specs.Piles.{pile, fitted, agrees, inside, refusal, both, Room};
 use crate::system::System;
@@ -25,7 +26,7 @@ pub struct Pile<U: System, L: System> {
 
 impl<U: System, L: System> Pile<U, L> {
     pub fn new(upper: U, lower: L, shared: ActionSet) -> Result<Pile<U, L>, (U, L, Fault)>
-        ensures { λ r. ⌜ elim r [ Ok p ↦ (refusal (U·System .meaning upper) (L·System .meaning lower) ≡ None) × (fitted (p .states) (p .mass) (p .breadth) (pile (p .shared .bits) (U·System .meaning (p .upper)) (L·System .meaning (p .lower))) ≡ pile (shared .bits) (U·System .meaning upper) (L·System .meaning lower)) | Err e ↦ (refusal (U·System .meaning upper) (L·System .meaning lower) ≡ Some (e .2)) × (e .0 ≡ upper) × (e .1 ≡ lower) ] ⌝ }
+        ensures { λ r. ⌜ elim r [ Ok p ↦ (refusal (U·System .meaning upper) (L·System .meaning lower) ≡ None) × (fitted (p .states) (p .mass) (p .breadth) (pile (has (p .shared)) (U·System .meaning (p .upper)) (L·System .meaning (p .lower))) ≡ pile (has shared) (U·System .meaning upper) (L·System .meaning lower)) | Err e ↦ (refusal (U·System .meaning upper) (L·System .meaning lower) ≡ Some (e .2)) × (e .0 ≡ upper) × (e .1 ≡ lower) ] ⌝ }
     {
         let states = upper.states() as u64 * lower.states() as u64;
         let breadth = upper.breadth() as u64 * lower.breadth() as u64;
@@ -48,7 +49,7 @@ impl<U: System, L: System> Pile<U, L> {
 
     // Whether there is such a state, and the numbers are those of the parts.
     fn has(&self, state: u32) -> bool
-        ensures { λ r. ⌜ r ≡ inside (now (self .entry) .states) (now (self .entry) .mass) (now (self .entry) .breadth) (pile (now (self .entry) .shared .bits) (U·System .meaning (now (self .entry) .upper)) (L·System .meaning (now (self .entry) .lower))) state ⌝ }
+        ensures { λ r. ⌜ r ≡ inside (now (self .entry) .states) (now (self .entry) .mass) (now (self .entry) .breadth) (pile (has (now (self .entry) .shared)) (U·System .meaning (now (self .entry) .upper)) (L·System .meaning (now (self .entry) .lower))) state ⌝ }
     {
         let states = self.upper.states() as u64 * self.lower.states() as u64;
         let mass = self.upper.mass() as u128 * self.lower.mass() as u128;
@@ -75,7 +76,7 @@ fn joined(k: u32, upper: Option<Target>, lower: Option<Target>) -> Option<Target
 }
 
 pub impl<U: System, L: System> System for Pile<U, L> as PileSystem {
-    ghost meaning = { λ p. fitted (p .states) (p .mass) (p .breadth) (pile (p .shared .bits) (U·System .meaning (p .upper)) (L·System .meaning (p .lower))) };
+    ghost meaning = { λ p. fitted (p .states) (p .mass) (p .breadth) (pile (has (p .shared)) (U·System .meaning (p .upper)) (L·System .meaning (p .lower))) };
 
     fn states(&self) -> u32 {
         self.states

@@ -6,8 +6,8 @@ use Rattle.systems.proofs.pile.Pile.new.Needs as need
 
 pub ghost-result : need.ghost-result
 ghost-result g c =
-    let su = g .U·System·met .sound (c .args .upper) in
-    let sl = g .L·System·met .sound (c .args .lower) in
+    let su = g .U·System·met .sound (c .args .upper) .ruled in
+    let sl = g .L·System·met .sound (c .args .lower) .ruled in
     let n1 : 1 ≤ c .states .result = omega (arith, su .states-low, c .states .ensures) in
     let n2 : 1 ≤ c .states-2 .result = omega (arith, sl .states-low, c .states-2 .ensures) in
     let m1 : 1 ≤ c .mass .result = omega (arith, su .mass-low, c .mass .ensures) in

@@ -5,6 +5,7 @@ use lib.ListN.{length, getD}
 use native.Mathlib.Omega.{arith}
 use Rattle.std.specs.shelf.Maps.{nth}
 use Rattle.systems.specs.Meaning.{Move}
+use Rattle.systems.specs.Actions.{has}
 use Rattle.systems.proofs.PiledCode.{moves-outside, moves-shared, moves-apart, few-shared, few-apart}
 use Rattle.systems.proofs.pile.PileSystem.moves.Needs as need
 
@@ -13,33 +14,33 @@ returns-then-not-has g c =
     let p = c .args .self .now in
     let U = g .U·System .meaning (p .upper) in
     let L = g .L·System .meaning (p .lower) in
-    let su = g .U·System·met .sound (p .upper) in
-    let sl = g .L·System·met .sound (p .lower) in
-    sym (ap length (moves-outside (p .shared .bits) (p .states) (p .mass) (p .breadth) U L su sl (c .args .state) (c .args .action) (sym (c .if-not-has .ensures tt))))
+    let su = g .U·System·met .sound (p .upper) .ruled in
+    let sl = g .L·System·met .sound (p .lower) .ruled in
+    sym (ap length (moves-outside (has (p .shared)) (p .states) (p .mass) (p .breadth) U L su sl (c .args .state) (c .args .action) (sym (c .if-not-has .ensures tt))))
 
 pub mul-result : need.mul-result
 mul-result g c =
     let p = c .args .self .now in
     let U = g .U·System .meaning (p .upper) in
     let L = g .L·System .meaning (p .lower) in
-    let su = g .U·System·met .sound (p .upper) in
-    let sl = g .L·System·met .sound (p .lower) in
-    omega (arith, few-shared (p .shared .bits) (p .states) (p .mass) (p .breadth) U L su sl (c .args .state) (c .args .action) (c .states-k .result) (c .states-k .ensures) (c .moves-up .result) (c .moves-low .result) (c .moves-up .ensures) (c .moves-low .ensures) (sym (c .if-not-has .ensures tt)) (p .broad .1))
+    let su = g .U·System·met .sound (p .upper) .ruled in
+    let sl = g .L·System·met .sound (p .lower) .ruled in
+    omega (arith, few-shared (has (p .shared)) (p .states) (p .mass) (p .breadth) U L su sl (c .args .state) (c .args .action) (c .states-k .result) (c .states-k .ensures) (c .moves-up .result) (c .moves-low .result) (c .moves-up .ensures) (c .moves-low .ensures) (sym (c .if-not-has .ensures tt)) (p .broad .1))
 
 pub returns-then-contains : need.returns-then-contains
 returns-then-contains g c =
     let p = c .args .self .now in
     let U = g .U·System .meaning (p .upper) in
     let L = g .L·System .meaning (p .lower) in
-    let su = g .U·System·met .sound (p .upper) in
-    let sl = g .L·System·met .sound (p .lower) in
-    moves-shared (p .shared .bits) (p .states) (p .mass) (p .breadth) U L su sl (c .args .state) (c .args .action) (c .states-k .result) (c .states-k .ensures) (c .moves-up .result) (c .moves-low .result) (c .moves-up .ensures) (c .moves-low .ensures) (sym (c .if-not-has .ensures tt)) (sym (c .if-contains .ensures tt))
+    let su = g .U·System·met .sound (p .upper) .ruled in
+    let sl = g .L·System·met .sound (p .lower) .ruled in
+    moves-shared (has (p .shared)) (p .states) (p .mass) (p .breadth) U L su sl (c .args .state) (c .args .action) (c .states-k .result) (c .states-k .ensures) (c .moves-up .result) (c .moves-low .result) (c .moves-up .ensures) (c .moves-low .ensures) (sym (c .if-not-has .ensures tt)) (sym (c .if-contains .ensures tt))
 
 pub returns-else-contains : need.returns-else-contains
 returns-else-contains g c =
     let p = c .args .self .now in
     let U = g .U·System .meaning (p .upper) in
     let L = g .L·System .meaning (p .lower) in
-    let su = g .U·System·met .sound (p .upper) in
-    let sl = g .L·System·met .sound (p .lower) in
-    moves-apart (p .shared .bits) (p .states) (p .mass) (p .breadth) U L su sl (c .args .state) (c .args .action) (c .states-k .result) (c .states-k .ensures) (c .moves-up .result) (c .moves-low .result) (c .moves-up .ensures) (c .moves-low .ensures) (sym (c .if-not-has .ensures tt)) (sym (c .if-contains .ensures tt))
+    let su = g .U·System·met .sound (p .upper) .ruled in
+    let sl = g .L·System·met .sound (p .lower) .ruled in
+    moves-apart (has (p .shared)) (p .states) (p .mass) (p .breadth) U L su sl (c .args .state) (c .args .action) (c .states-k .result) (c .states-k .ensures) (c .moves-up .result) (c .moves-low .result) (c .moves-up .ensures) (c .moves-low .ensures) (sym (c .if-not-has .ensures tt)) (sym (c .if-contains .ensures tt))

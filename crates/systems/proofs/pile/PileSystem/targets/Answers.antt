@@ -5,6 +5,7 @@ use lib.ListN.{length, getD}
 use native.Mathlib.Omega.{arith}
 use Rattle.std.specs.shelf.Maps.{nth}
 use Rattle.systems.specs.Meaning.{Move}
+use Rattle.systems.specs.Actions.{has}
 use Rattle.systems.proofs.PiledCode.{moves-outside, targets-shared, targets-upper, targets-lower, targets-none, short-shared}
 use Rattle.systems.proofs.pile.PileSystem.targets.Needs as need
 
@@ -13,51 +14,51 @@ returns-then-not-has g c =
     let p = c .args .self .now in
     let U = g .U·System .meaning (p .upper) in
     let L = g .L·System .meaning (p .lower) in
-    let su = g .U·System·met .sound (p .upper) in
-    let sl = g .L·System·met .sound (p .lower) in
-    sym (ap (λ (ms : List Move). length (getD ms (c .args .mv) [])) (moves-outside (p .shared .bits) (p .states) (p .mass) (p .breadth) U L su sl (c .args .state) (c .args .action) (sym (c .if-not-has .ensures tt))))
+    let su = g .U·System·met .sound (p .upper) .ruled in
+    let sl = g .L·System·met .sound (p .lower) .ruled in
+    sym (ap (λ (ms : List Move). length (getD ms (c .args .mv) [])) (moves-outside (has (p .shared)) (p .states) (p .mass) (p .breadth) U L su sl (c .args .state) (c .args .action) (sym (c .if-not-has .ensures tt))))
 
 pub returns-then-low-eq0 : need.returns-then-low-eq0
 returns-then-low-eq0 g c =
     let p = c .args .self .now in
     let U = g .U·System .meaning (p .upper) in
     let L = g .L·System .meaning (p .lower) in
-    let su = g .U·System·met .sound (p .upper) in
-    let sl = g .L·System·met .sound (p .lower) in
-    sym (ap length (targets-none (p .shared .bits) (p .states) (p .mass) (p .breadth) U L su sl (c .args .state) (c .args .action) (c .states-k .result) (c .states-k .ensures) (sym (c .if-not-has .ensures tt)) (c .args .mv) (c .moves-low .result) (sym (c .if-contains .ensures tt)) (c .moves-low .ensures) (c .if-low-eq0 .taken)))
+    let su = g .U·System·met .sound (p .upper) .ruled in
+    let sl = g .L·System·met .sound (p .lower) .ruled in
+    sym (ap length (targets-none (has (p .shared)) (p .states) (p .mass) (p .breadth) U L su sl (c .args .state) (c .args .action) (c .states-k .result) (c .states-k .ensures) (sym (c .if-not-has .ensures tt)) (c .args .mv) (c .moves-low .result) (sym (c .if-contains .ensures tt)) (c .moves-low .ensures) (c .if-low-eq0 .taken)))
 
 pub mul-result : need.mul-result
 mul-result g c =
     let p = c .args .self .now in
     let U = g .U·System .meaning (p .upper) in
     let L = g .L·System .meaning (p .lower) in
-    let su = g .U·System·met .sound (p .upper) in
-    let sl = g .L·System·met .sound (p .lower) in
-    omega (arith, short-shared (p .shared .bits) (p .states) (p .mass) (p .breadth) U L su sl (c .args .state) (c .args .action) (c .states-k .result) (c .states-k .ensures) (Prim.Native.Nat._/_ (c .args .mv) (c .moves-low .result)) (Prim.Native.Nat._%_ (c .args .mv) (c .moves-low .result)) (c .targets .result) (c .targets-then-contains .result) (c .targets .ensures) (c .targets-then-contains .ensures) (sym (c .if-not-has .ensures tt)) (p .broad .1))
+    let su = g .U·System·met .sound (p .upper) .ruled in
+    let sl = g .L·System·met .sound (p .lower) .ruled in
+    omega (arith, short-shared (has (p .shared)) (p .states) (p .mass) (p .breadth) U L su sl (c .args .state) (c .args .action) (c .states-k .result) (c .states-k .ensures) (Prim.Native.Nat._/_ (c .args .mv) (c .moves-low .result)) (Prim.Native.Nat._%_ (c .args .mv) (c .moves-low .result)) (c .targets .result) (c .targets-then-contains .result) (c .targets .ensures) (c .targets-then-contains .ensures) (sym (c .if-not-has .ensures tt)) (p .broad .1))
 
 pub returns-then-contains : need.returns-then-contains
 returns-then-contains g c =
     let p = c .args .self .now in
     let U = g .U·System .meaning (p .upper) in
     let L = g .L·System .meaning (p .lower) in
-    let su = g .U·System·met .sound (p .upper) in
-    let sl = g .L·System·met .sound (p .lower) in
-    targets-shared (p .shared .bits) (p .states) (p .mass) (p .breadth) U L su sl (c .args .state) (c .args .action) (c .states-k .result) (c .states-k .ensures) (sym (c .if-not-has .ensures tt)) (c .args .mv) (c .moves-low .result) (c .targets .result) (c .targets-then-contains .result) (sym (c .if-contains .ensures tt)) (c .moves-low .ensures) (c .if-low-eq0 .left) (c .targets .ensures) (c .targets-then-contains .ensures)
+    let su = g .U·System·met .sound (p .upper) .ruled in
+    let sl = g .L·System·met .sound (p .lower) .ruled in
+    targets-shared (has (p .shared)) (p .states) (p .mass) (p .breadth) U L su sl (c .args .state) (c .args .action) (c .states-k .result) (c .states-k .ensures) (sym (c .if-not-has .ensures tt)) (c .args .mv) (c .moves-low .result) (c .targets .result) (c .targets-then-contains .result) (sym (c .if-contains .ensures tt)) (c .moves-low .ensures) (c .if-low-eq0 .left) (c .targets .ensures) (c .targets-then-contains .ensures)
 
 pub returns-then-mv-up : need.returns-then-mv-up
 returns-then-mv-up g c =
     let p = c .args .self .now in
     let U = g .U·System .meaning (p .upper) in
     let L = g .L·System .meaning (p .lower) in
-    let su = g .U·System·met .sound (p .upper) in
-    let sl = g .L·System·met .sound (p .lower) in
-    targets-upper (p .shared .bits) (p .states) (p .mass) (p .breadth) U L su sl (c .args .state) (c .args .action) (c .states-k .result) (c .states-k .ensures) (sym (c .if-not-has .ensures tt)) (c .args .mv) (c .moves-up .result) (c .targets-then-mv-up .result) (sym (c .if-contains .ensures tt)) (c .moves-up .ensures) (c .if-mv-up .taken) (c .targets-then-mv-up .ensures)
+    let su = g .U·System·met .sound (p .upper) .ruled in
+    let sl = g .L·System·met .sound (p .lower) .ruled in
+    targets-upper (has (p .shared)) (p .states) (p .mass) (p .breadth) U L su sl (c .args .state) (c .args .action) (c .states-k .result) (c .states-k .ensures) (sym (c .if-not-has .ensures tt)) (c .args .mv) (c .moves-up .result) (c .targets-then-mv-up .result) (sym (c .if-contains .ensures tt)) (c .moves-up .ensures) (c .if-mv-up .taken) (c .targets-then-mv-up .ensures)
 
 pub returns-else-mv-up : need.returns-else-mv-up
 returns-else-mv-up g c =
     let p = c .args .self .now in
     let U = g .U·System .meaning (p .upper) in
     let L = g .L·System .meaning (p .lower) in
-    let su = g .U·System·met .sound (p .upper) in
-    let sl = g .L·System·met .sound (p .lower) in
-    targets-lower (p .shared .bits) (p .states) (p .mass) (p .breadth) U L su sl (c .args .state) (c .args .action) (c .states-k .result) (c .states-k .ensures) (sym (c .if-not-has .ensures tt)) (c .args .mv) (c .moves-up .result) (c .targets-else-mv-up .result) (sym (c .if-contains .ensures tt)) (c .moves-up .ensures) (c .if-mv-up .left) (c .targets-else-mv-up .ensures)
+    let su = g .U·System·met .sound (p .upper) .ruled in
+    let sl = g .L·System·met .sound (p .lower) .ruled in
+    targets-lower (has (p .shared)) (p .states) (p .mass) (p .breadth) U L su sl (c .args .state) (c .args .action) (c .states-k .result) (c .states-k .ensures) (sym (c .if-not-has .ensures tt)) (c .args .mv) (c .moves-up .result) (c .targets-else-mv-up .result) (sym (c .if-contains .ensures tt)) (c .moves-up .ensures) (c .if-mv-up .left) (c .targets-else-mv-up .ensures)
