@@ -1,0 +1,4 @@
+pub mod Refusals
+pub mod Claims
+pub mod Spots
+pub mod Sums

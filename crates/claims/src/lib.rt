@@ -1,0 +1,5 @@
+// Claims: a formula with the mass removed from its system, opened from a draft and judged on systems.
+pub mod claim;
+pub mod fault;
+mod spot;
+mod sum;
