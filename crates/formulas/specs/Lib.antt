@@ -3,4 +3,5 @@ pub mod Layout
 pub mod Truths
 pub mod Stands
 pub mod Right
+pub mod Satisfaction
 pub mod Laws
