@@ -1,2 +1,5 @@
 pub mod Soundness
 pub mod Totals
+pub mod Anys
+pub mod Marks
+pub mod Clears

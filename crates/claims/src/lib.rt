@@ -1,5 +1,7 @@
 // Claims: a formula with the mass removed from its system, opened from a draft and judged on systems.
 pub mod claim;
 pub mod fault;
+mod row;
 mod spot;
 mod sum;
+pub mod verdict;

@@ -1,0 +1,44 @@
+-- Tables that hold a formula, with what is known of its truths on a system.
+use mathlib.Core.Path.{_≡_}
+use mathlib.Core.List.{List}
+use Prim.Native.Nat.{ℕ, _+_, _*_, _/_, _≤_, _<_}
+use lib.ListN.{length, getD}
+use Rattle.std.specs.shelf.Lists.{All}
+use Rattle.systems.specs.Meaning.{Meaning}
+use Rattle.formulas.specs.declared.node.Node.{Node}
+use Rattle.formulas.specs.declared.node.Run.{Run}
+use Rattle.formulas.specs.Lines.{line, lines, entries}
+use Rattle.formulas.specs.Right.{All-right}
+use Rattle.formulas.specs.Truths.{Truth, truth, truths, never, at-node}
+use Rattle.claims.specs.declared.claim.Tables.{Tables}
+use Rattle.claims.specs.Verdicts.{byte}
+
+-- the truths of the formula that the tables hold
+abbrev pub truths-in : Meaning → Tables → List Truth
+truths-in M t = truths M (lines (t .nodes .now) (t .terms .now) (t .alternatives .now))
+
+-- the greatest mass that may have been removed for M to be judged
+abbrev pub most-removed : Meaning → ℕ
+most-removed M = 1000000000000000 / M .mass
+
+-- the tables hold a formula that may be judged on M
+pub record Sits (M : Meaning) (t : Tables) : Type 0 where
+  pub right : All-right (t .nodes .now) (t .terms .now) (t .alternatives .now) (most-removed M)
+  pub solved : (i : ℕ) (d : Node) → i < length (t .nodes .now) → getD (truths-in M t) i never ≡ truth M (truths-in M t) (line (t .terms .now) (t .alternatives .now) (getD (t .nodes .now) i d))
+
+-- the bytes of the nodes below i are their truths
+abbrev pub Agrees : Meaning → List Truth → List ℕ → ℕ → Type 0
+Agrees M T table i = (j s : ℕ) → j < i → s < M .states → getD table (j * M .states + s) 0 ≡ byte (at-node T j s)
+
+-- besides, the truth table has the truths of the nodes below i, and a row of that length has room for them
+pub record Board (M : Meaning) (t : Tables) (i : ℕ) (table : List ℕ) (len : ℕ) : Type 0 where
+  pub sits : Sits M t
+  pub nodes : i ≤ length (t .nodes .now)
+  pub rows : i * M .states ≤ length table
+  pub long : i ≤ len
+  pub agrees : Agrees M (truths-in M t) table i
+
+-- a run of alternatives that come before node i
+pub record Before (t : Tables) (i : ℕ) (r : Run) : Type 0 where
+  pub within : r .first + r .count ≤ length (t .alternatives .now)
+  pub below : All (λ d. d < i) (entries (t .alternatives .now) r)
