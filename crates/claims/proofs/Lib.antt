@@ -3,3 +3,5 @@ pub mod Totals
 pub mod Anys
 pub mod Marks
 pub mod Clears
+pub mod Truthful
+pub mod Reached

@@ -152,6 +152,7 @@ fn fill<S: System>(system: &S, spot: Spot, tables: Tables, truth: &[u8], span: S
     requires ordered { ⌜ span .low ≤ span .high ⌝ }
     requires placed { ⌜ Placed (meaning (now system)) spot ⌝ }
     requires board { ⌜ Board (meaning (now system)) tables (span .high) (now truth) (length (now row)) ⌝ }
+    requires bare { ⌜ ((k : ℕ) → k < span .low → Mark (now row) k → ⊥) ⌝ }
     requires closed { ⌜ ((k : ℕ) → k < span .high → Mark (now row) k → All (Mark (now row)) (parts (getD (now (tables .nodes)) k no-node))) ⌝ }
     ensures { λ _. ⌜ Filling (truths-in (meaning (now (system .entry))) (tables .entry)) (spot-of (meaning (now (system .entry))) spot) (span .low) (span .high) (now (row .entry)) (now (row .exit)) ⌝ }
 {
