@@ -6,7 +6,12 @@ use Prim.Native.Nat.{ℕ, _+_, _≤_, _<_}
 use lib.ListN.{length, getD, drop}
 use Rattle.std.specs.shelf.Lists.{All}
 use Rattle.std.proofs.shelf.Lists.{at-drop-more, at-drop-all}
+use Rattle.systems.specs.Meaning.{Move}
 use Rattle.formulas.specs.Truths.{any}
+
+-- some alternative holds of the move
+abbrev pub some-of : (ℕ → Move → Bool) → List ℕ → Move → Bool
+some-of of ds mv = any (λ d. of d mv) ds
 
 -- none before the place i passes
 module _ {X : Type 0} (p : X → Bool) (xs : List X) (i : ℕ) where

@@ -5,3 +5,4 @@ pub mod Marks
 pub mod Clears
 pub mod Truthful
 pub mod Reached
+pub mod Lookups

@@ -1,12 +1,13 @@
 -- Tables that hold a formula, with what is known of its truths on a system.
 use mathlib.Core.Path.{_≡_}
-use mathlib.Core.List.{List}
+use mathlib.Core.List.{List, _++_}
 use Prim.Native.Nat.{ℕ, _+_, _*_, _/_, _≤_, _<_}
-use lib.ListN.{length, getD}
+use lib.ListN.{length, getD, take, drop}
 use Rattle.std.specs.shelf.Lists.{All}
 use Rattle.systems.specs.Meaning.{Meaning}
 use Rattle.formulas.specs.declared.node.Node.{Node}
 use Rattle.formulas.specs.declared.node.Run.{Run}
+use Rattle.formulas.specs.declared.node.Term.{Term}
 use Rattle.formulas.specs.Lines.{line, lines, entries}
 use Rattle.formulas.specs.Right.{All-right}
 use Rattle.formulas.specs.Truths.{Truth, truth, truths, never, at-node}
@@ -22,9 +23,12 @@ abbrev pub most-removed : Meaning → ℕ
 most-removed M = 1000000000000000 / M .mass
 
 -- the tables hold a formula that may be judged on M
-pub record Sits (M : Meaning) (t : Tables) : Type 0 where
-  pub right : All-right (t .nodes .now) (t .terms .now) (t .alternatives .now) (most-removed M)
-  pub solved : (i : ℕ) (d : Node) → i < length (t .nodes .now) → getD (truths-in M t) i never ≡ truth M (truths-in M t) (line (t .terms .now) (t .alternatives .now) (getD (t .nodes .now) i d))
+pub record Sits-in (M : Meaning) (ns : List Node) (ts : List Term) (alts : List ℕ) : Type 0 where
+  pub right : All-right ns ts alts (most-removed M)
+  pub solved : (i : ℕ) (d : Node) → i < length ns → getD (truths M (lines ns ts alts)) i never ≡ truth M (truths M (lines ns ts alts)) (line ts alts (getD ns i d))
+
+abbrev pub Sits : Meaning → Tables → Type 0
+Sits M t = Sits-in M (t .nodes .now) (t .terms .now) (t .alternatives .now)
 
 -- the bytes of the nodes below i are their truths
 abbrev pub Agrees : Meaning → List Truth → List ℕ → ℕ → Type 0
@@ -42,3 +46,7 @@ pub record Board (M : Meaning) (t : Tables) (i : ℕ) (table : List ℕ) (len : 
 pub record Before (t : Tables) (i : ℕ) (r : Run) : Type 0 where
   pub within : r .first + r .count ≤ length (t .alternatives .now)
   pub below : All (λ d. d < i) (entries (t .alternatives .now) r)
+
+-- the list with these in place of as many from the place p on
+abbrev pub pasted : ℕ → List ℕ → List ℕ → List ℕ
+pasted p new old = take p old ++ (new ++ drop (p + length new) old)
