@@ -6,3 +6,5 @@ pub mod Clears
 pub mod Truthful
 pub mod Reached
 pub mod Lookups
+pub mod Pastes
+pub mod Judging

@@ -151,7 +151,7 @@ fn decide<S: System>(root: u32, tables: Tables, system: &S, truth: &mut [u8], ro
     };
     clear(span, row);
     fill_table(system, tables, truth, row);
-    if is_lit(truth, system.states() as usize, root, 0) { Verdict::Yes } else { Verdict::No }
+    Verdict::of(is_lit(truth, system.states() as usize, root, 0))
 }
 
 // Whether two masses multiply to more than is allowed.
@@ -176,15 +176,18 @@ pub fn judge<S: System>(claim: &Claim, tables: Tables, system: &S, truth: &mut [
     ensures row { λ r. ⌜ now (row .exit) ≡ after r (row-bytes (now (claim .entry))) (now (row .entry)) ⌝ }
 {
     let fills = claim.fills();
-    if !formula_in(fills, claim.root(), claim.mass(), tables.nodes, tables.terms, tables.alternatives) {
+    let root = claim.root();
+    let removed = claim.mass();
+    if !formula_in(fills, root, removed, tables.nodes, tables.terms, tables.alternatives) {
         return Err(Refusal::NoFormula);
     }
-    if too_heavy(claim.mass(), system.mass()) {
+    if too_heavy(removed, system.mass()) {
         return Err(Refusal::Heavy);
     }
     if too_short(fills.nodes, system.states(), truth.len(), row.len()) {
         return Err(Refusal::Short);
     }
     truth_stands();
-    Ok(decide(claim.root(), front(fills, tables), system, truth, row))
+    let used = front(fills, tables);
+    Ok(decide(root, used, system, truth, row))
 }
