@@ -1,7 +1,9 @@
 -- Tables that hold a formula, with what is known of its truths on a system.
 use mathlib.Core.Path.{_≡_}
+use mathlib.Core.Bool.{true, false, _||_}
 use mathlib.Core.List.{List, _++_}
 use Prim.Native.Nat.{ℕ, _+_, _*_, _/_, _≤_, _<_}
+use lib.Dec.{ltb}
 use lib.ListN.{length, getD, take, drop}
 use Rattle.std.specs.shelf.Lists.{All}
 use Rattle.systems.specs.Meaning.{Meaning}
@@ -9,9 +11,12 @@ use Rattle.formulas.specs.declared.node.Node.{Node}
 use Rattle.formulas.specs.declared.node.Run.{Run}
 use Rattle.formulas.specs.declared.node.Term.{Term}
 use Rattle.formulas.specs.Lines.{line, lines, entries}
+use Rattle.formulas.specs.Laws.{Truth-law}
 use Rattle.formulas.specs.Right.{All-right}
 use Rattle.formulas.specs.Truths.{Truth, truth, truths, never, at-node}
-use Rattle.claims.specs.declared.claim.Tables.{Tables}
+use Rattle.claims.specs.declared.claim.Claim.{Claim}
+use Rattle.claims.specs.declared.tables.Tables.{Tables}
+use Rattle.claims.specs.Claims.{stands-in}
 use Rattle.claims.specs.Verdicts.{byte}
 
 -- the truths of the formula that the tables hold
@@ -50,3 +55,11 @@ pub record Before (t : Tables) (i : ℕ) (r : Run) : Type 0 where
 -- the list with these in place of as many from the place p on
 abbrev pub pasted : ℕ → List ℕ → List ℕ → List ℕ
 pasted p new old = take p old ++ (new ++ drop (p + length new) old)
+
+-- the claim passes the tests of judge, with a truth table and a row of these lengths
+pub record Passed (M : Meaning) (c : Claim) (t : Tables) (size len : ℕ) : Type 0 where
+  pub held : stands-in (c .fills) (c .root) (c .mass) t ≡ true
+  pub light : ltb 1000000000000000 (c .mass * M .mass) ≡ false
+  pub room : (ltb size (c .fills .nodes * M .states) || ltb len (c .fills .nodes)) ≡ false
+  pub right : All-right (take (c .fills .nodes) (t .nodes .now)) (take (c .fills .terms) (t .terms .now)) (take (c .fills .alternatives) (t .alternatives .now)) (c .mass)
+  pub law : Truth-law

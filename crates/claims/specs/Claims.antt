@@ -12,11 +12,17 @@ use Rattle.formulas.specs.declared.draft.Draft.{Draft}
 use Rattle.formulas.specs.Lines.{Line, lines, Formula}
 use Rattle.formulas.specs.Stands.{formula-in}
 use Rattle.claims.specs.declared.claim.Claim.{Claim}
-use Rattle.claims.specs.declared.claim.Tables.{Tables}
+use Rattle.claims.specs.declared.tables.Tables.{Tables}
 
 -- the tables hold a formula of these fills and this root, mass m having been removed
 abbrev pub stands-in : Fills → ℕ → ℕ → Tables → Bool
 stands-in f root m t = formula-in f root m (t .nodes .now) (t .terms .now) (t .alternatives .now)
+
+-- u is what is used of the tables t: the front of each
+pub record Front (f : Fills) (t u : Tables) : Type 0 where
+  pub nodes : u .nodes .now ≡ take (f .nodes) (t .nodes .now)
+  pub terms : u .terms .now ≡ take (f .terms) (t .terms .now)
+  pub alternatives : u .alternatives .now ≡ take (f .alternatives) (t .alternatives .now)
 
 -- its lines: only the front of each table is used
 abbrev pub lines-in : Fills → Tables → List Line

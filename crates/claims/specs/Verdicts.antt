@@ -11,7 +11,7 @@ use Rattle.std.specs.declared.result.Result.the-variants.{Ok, Err}
 use Rattle.systems.specs.Meaning.{Meaning}
 use Rattle.formulas.specs.Truths.{Truth, truths, at-node, holds}
 use Rattle.claims.specs.declared.claim.Claim.{Claim}
-use Rattle.claims.specs.declared.claim.Tables.{Tables}
+use Rattle.claims.specs.declared.tables.Tables.{Tables}
 use Rattle.claims.specs.declared.fault.Refusal.{Refusal}
 use Rattle.claims.specs.declared.fault.Refusal.the-variants.{NoFormula, Heavy, Short}
 use Rattle.claims.specs.declared.verdict.Verdict.{Verdict}

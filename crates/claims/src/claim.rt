@@ -1,35 +1,8 @@
-// A claim, and the tables that its formula stands in.
+// A formula with the mass removed from its system, and the actions that removed systems share.
 ghost use mathlib.Core.Path.{_≡_};
 ghost use Prim.Native.Nat.{_≤_};
-ghost use lib.ListN.{length, take};
 use formulas::node::Fills;
-use formulas::node::Node;
-use formulas::node::Term;
 use systems::actions::ActionSet;
-
-// A formula's tables, lent. They may be longer than what the formula uses of them.
-#[derive(Clone, Copy)]
-pub struct Tables<'a> {
-    pub nodes: &'a [Node],
-    pub terms: &'a [Term],
-    pub alternatives: &'a [u32],
-}
-
-// What a formula of these fills uses of its tables.
-pub(crate) fn front<'a>(fills: Fills, tables: Tables<'a>) -> Tables<'a>
-    requires nodes { ⌜ fills .nodes ≤ length (now (tables .nodes)) ⌝ }
-    requires terms { ⌜ fills .terms ≤ length (now (tables .terms)) ⌝ }
-    requires alternatives { ⌜ fills .alternatives ≤ length (now (tables .alternatives)) ⌝ }
-    ensures nodes { λ r. ⌜ now (r .nodes) ≡ take (fills .nodes) (now (tables .entry .nodes)) ⌝ }
-    ensures terms { λ r. ⌜ now (r .terms) ≡ take (fills .terms) (now (tables .entry .terms)) ⌝ }
-    ensures alternatives { λ r. ⌜ now (r .alternatives) ≡ take (fills .alternatives) (now (tables .entry .alternatives)) ⌝ }
-{
-    Tables {
-        nodes: &tables.nodes[0..fills.nodes as usize],
-        terms: &tables.terms[0..fills.terms as usize],
-        alternatives: &tables.alternatives[0..fills.alternatives as usize],
-    }
-}
 
 // It is moved and never copied: a call that takes it uses it up.
 #[derive(Drop)]

@@ -4,6 +4,7 @@ ghost use mathlib.Core.Bool.{_||_};
 ghost use Prim.Native.Nat.{ℕ, _+_, _*_, _≤_, _<_};
 ghost use lib.Dec.{ltb};
 ghost use lib.ListN.{length, getD, take, replicate};
+ghost use Rattle.std.specs.declared.result.Result.the-variants.{Ok};
 ghost use Rattle.systems.specs.Meaning.{point};
 ghost use Rattle.formulas.specs.Lines.{line, state-line, entries};
 ghost use Rattle.formulas.specs.Right.{Right, Right-state};
@@ -11,10 +12,10 @@ ghost use Rattle.formulas.specs.Truths.{any, holds-at, at-node, of-node};
 ghost use Rattle.claims.specs.Verdicts.{verdict, judged, byte, node-bytes, bytes, truth-bytes, row-bytes, over, after};
 ghost use Rattle.claims.specs.Sums.{lit, Row-at};
 ghost use Rattle.claims.specs.Rows.{Clear};
-ghost use Rattle.claims.specs.Boards.{truths-in, most-removed, Sits, Board, Before, pasted};
-use crate::claim::front;
+ghost use Rattle.claims.specs.Boards.{truths-in, most-removed, Sits, Board, Before, pasted, Passed};
+use crate::tables::front;
 use crate::claim::Claim;
-use crate::claim::Tables;
+use crate::tables::Tables;
 use crate::fault::Refusal;
 use crate::row::clear;
 use crate::row::some_holds;
@@ -135,8 +136,8 @@ fn fill_table<S: System>(system: &S, tables: Tables, truth: &mut [u8], row: &mut
     }
 }
 
-// The verdict, where there is room for all truths: they are filled in, and the root is looked up.
-fn decide<S: System>(root: u32, tables: Tables, system: &S, truth: &mut [u8], row: &mut [u8]) -> Verdict
+// Fills in all truths, and looks up the root's.
+fn evaluate<S: System>(root: u32, tables: Tables, system: &S, truth: &mut [u8], row: &mut [u8]) -> Verdict
     requires sits { ⌜ Sits (meaning (now system)) tables ⌝ }
     requires root { ⌜ root < length (now (tables .nodes)) ⌝ }
     requires room { ⌜ length (now (tables .nodes)) * meaning (now system) .states ≤ length (now truth) ⌝ }
@@ -152,6 +153,17 @@ fn decide<S: System>(root: u32, tables: Tables, system: &S, truth: &mut [u8], ro
     clear(span, row);
     fill_table(system, tables, truth, row);
     Verdict::of(is_lit(truth, system.states() as usize, root, 0))
+}
+
+// The verdict on a claim that passes the tests.
+fn decide<S: System>(claim: &Claim, tables: Tables, system: &S, truth: &mut [u8], row: &mut [u8]) -> Verdict
+    requires { ⌜ Passed (meaning (now system)) (now claim) tables (length (now truth)) (length (now row)) ⌝ }
+    ensures value { λ r. ⌜ Ok r ≡ judged (meaning (now (system .entry))) (now (claim .entry)) (tables .entry) (length (now (truth .entry))) (length (now (row .entry))) ⌝ }
+    ensures truth { λ _. ⌜ now (truth .exit) ≡ over (truth-bytes (meaning (now (system .entry))) (now (claim .entry)) (tables .entry)) (now (truth .entry)) ⌝ }
+    ensures row { λ _. ⌜ now (row .exit) ≡ over (row-bytes (now (claim .entry))) (now (row .entry)) ⌝ }
+{
+    let used = front(claim.fills(), tables);
+    evaluate(claim.root(), used, system, truth, row)
 }
 
 // Whether two masses multiply to more than is allowed.
@@ -176,9 +188,8 @@ pub fn judge<S: System>(claim: &Claim, tables: Tables, system: &S, truth: &mut [
     ensures row { λ r. ⌜ now (row .exit) ≡ after r (row-bytes (now (claim .entry))) (now (row .entry)) ⌝ }
 {
     let fills = claim.fills();
-    let root = claim.root();
     let removed = claim.mass();
-    if !formula_in(fills, root, removed, tables.nodes, tables.terms, tables.alternatives) {
+    if !formula_in(fills, claim.root(), removed, tables.nodes, tables.terms, tables.alternatives) {
         return Err(Refusal::NoFormula);
     }
     if too_heavy(removed, system.mass()) {
@@ -188,6 +199,5 @@ pub fn judge<S: System>(claim: &Claim, tables: Tables, system: &S, truth: &mut [
         return Err(Refusal::Short);
     }
     truth_stands();
-    let used = front(fills, tables);
-    Ok(decide(root, used, system, truth, row))
+    Ok(decide(claim, tables, system, truth, row))
 }

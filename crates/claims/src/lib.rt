@@ -6,4 +6,5 @@ pub mod opening;
 mod row;
 mod spot;
 mod sum;
+pub mod tables;
 pub mod verdict;

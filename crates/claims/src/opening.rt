@@ -5,7 +5,7 @@ ghost use Rattle.std.specs.declared.result.Result.the-variants.{Ok, Err};
 ghost use Rattle.claims.specs.declared.fault.Refusal.the-variants.{NoFormula};
 ghost use Rattle.claims.specs.Claims.{stands-in, Opened};
 use crate::claim::Claim;
-use crate::claim::Tables;
+use crate::tables::Tables;
 use crate::fault::Refusal;
 use formulas::draft::Draft;
 use formulas::stands::formula_in;

@@ -10,7 +10,7 @@ ghost use Rattle.claims.specs.Spots.{spot-of, Placed};
 ghost use Rattle.claims.specs.Sums.{lit};
 ghost use Rattle.claims.specs.Rows.{lit-row, Mark, marked, lowest, dist-parts, parts, no-node, Parted, Spread, Ready-dist, Ready, row-byte, settled, Filling, Cleared, Clear};
 ghost use Rattle.claims.specs.Boards.{truths-in, Board, Before};
-use crate::claim::Tables;
+use crate::tables::Tables;
 use crate::spot::Spot;
 use crate::sum::sum_holds;
 use formulas::node::DistNode;
