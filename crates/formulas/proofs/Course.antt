@@ -1,20 +1,19 @@
 -- The truths line by line.
-use mathlib.Core.Path.{_≡_, sym, ap, ap₂, _∙_, refl, fun-ext, subst}
-use mathlib.Core.Bool.{Bool, true, false, not, _&&_, _||_, cond}
+use mathlib.Core.Path.{_≡_, sym, ap, ap₂, _∙_, refl}
+use mathlib.Core.Bool.{Bool, true, not, _&&_, _||_, cond}
 use mathlib.Core.List.{List, [], _∷_, _++_}
-use mathlib.Core.Logic.{inl, inr, ⊎-elim}
 use Prim.Native.Nat.{ℕ, zero, suc, _+_, _*_, _≤_, _<_}
 use native.Mathlib.Nat.{le-of-suc-le-suc, not-suc-le-zero}
 use native.Mathlib.Omega.{arith}
 use lib.Dec.{leb}
 use lib.ListN.{length, getD, take, drop}
-use Rattle.std.proofs.shelf.Lists.{length-push, take-all, getD-append-left, getD-push, take-append-drop, length-take-le}
+use Rattle.std.proofs.shelf.Lists.{length-push, getD-append-left, getD-push, take-append-drop, length-take-le}
 use Rattle.std.proofs.shelf.Sums.{folded-more, folded-push, sumBy-cons}
 use Rattle.std.specs.Iters.{folded}
-use Rattle.std.specs.shelf.Lists.{All, sumBy}
+use Rattle.std.specs.shelf.Lists.{All}
 use Rattle.systems.specs.Meaning.{Meaning, Move, point}
 use Rattle.formulas.specs.declared.node.Term.{Term}
-use Rattle.formulas.specs.Lines.{Sort, state, dist, is-state, is-dist, Line, constant, both, non, step, sum}
+use Rattle.formulas.specs.Lines.{state, is-state, is-dist, Line, constant, both, non, step, sum}
 use Rattle.formulas.specs.Truths.{Truth, truth, truths, never, next-truth, weigh, total, any, holds-of, holds-at, at-node, of-node}
 use Rattle.formulas.specs.Right.{Below, Formed}
 

@@ -1,13 +1,13 @@
 -- Tables that hold a formula are the layout of their lines, and lines are read back from their layout.
 use mathlib.Core.Path.{_≡_, refl, sym, ap, ap₂, _∙_}
-use mathlib.Core.Bool.{true, false, _&&_}
-use mathlib.Core.List.{List, [], _∷_, _++_, map, append-assoc}
+use mathlib.Core.Bool.{true, false}
+use mathlib.Core.List.{List, [], _∷_, _++_, append-assoc}
 use Prim.Native.Nat.{ℕ, zero-le, _+_, _≤_}
 use native.Mathlib.Omega.{arith}
 use lib.Dec.{eqb}
 use lib.ListN.{length, take, drop, length-take, length-drop}
 use lib.Seq.{take-append-seam, drop-append-seam}
-use Rattle.std.proofs.shelf.Lists.{take-append-drop, drop-drop, drop-all, length-append}
+use Rattle.std.proofs.shelf.Lists.{take-append-drop, drop-drop, drop-all}
 use Rattle.std.proofs.shelf.Tests.{and-parts, eqb-true}
 use Rattle.formulas.specs.declared.node.Node.{Node}
 use Rattle.formulas.specs.declared.node.Node.the-variants.{State, Dist}
@@ -111,8 +111,8 @@ module _ (ns : List Node) (ts : List Term) (alts : List ℕ) (m : ℕ) where
       let later = walk-again (i + 1) (t + terms-of n) (a + alternatives-of n) rest it ia (p .1) in
       record {
         nodes =
-          ap₂ (λ x y. node t a (line ts alts n) ∷ node-table (t + x) (a + y) (lines rest ts alts)) (ap length et ∙ part-length ts t (terms-of n) it) (ap length ea ∙ part-length alts a (alternatives-of n) ia)
-          ∙ ap₂ _∷_ (node-again ns ts alts m i t a n (p .0)) (later .nodes);
+            ap₂ (λ x y. node t a (line ts alts n) ∷ node-table (t + x) (a + y) (lines rest ts alts)) (ap length et ∙ part-length ts t (terms-of n) it) (ap length ea ∙ part-length alts a (alternatives-of n) ia)
+            ∙ ap₂ _∷_ (node-again ns ts alts m i t a n (p .0)) (later .nodes);
         terms = ap₂ _++_ et (later .terms) ∙ part-next ts t (terms-of n);
         alternatives = ap₂ _++_ ea (later .alternatives) ∙ part-next alts a (alternatives-of n);
       }

@@ -1,26 +1,24 @@
 -- A table that stands has all its nodes right.
-use mathlib.Core.Path.{_≡_, sym, ap, _∙_, refl, subst}
-use mathlib.Core.Bool.{Bool, true, false, _&&_}
-use mathlib.Core.List.{List, [], _∷_, _++_, map}
+use mathlib.Core.Path.{_≡_, sym, ap, subst}
+use mathlib.Core.Bool.{true, _&&_}
+use mathlib.Core.List.{List, [], _∷_, _++_}
 use Prim.Native.Nat.{ℕ, zero, suc, _+_, _-_, _*_, _≤_, _<_}
 use native.Mathlib.Nat.{le-of-suc-le-suc, not-suc-le-zero, add-zero}
 use native.Mathlib.Omega.{arith}
-use lib.Dec.{leb, ltb, eqb}
-use lib.ListN.{length, getD, take, drop}
+use lib.Dec.{leb, ltb}
+use lib.ListN.{length, getD}
 use Rattle.std.proofs.shelf.Lists.{getD-map, length-map}
 use Rattle.std.proofs.shelf.Sums.{sumBy-cons}
-use Rattle.std.proofs.shelf.Tests.{and-parts, leb-true, ltb-true, eqb-true}
+use Rattle.std.proofs.shelf.Tests.{and-parts, leb-true, ltb-true}
 use Rattle.std.specs.shelf.Lists.{All, sumBy}
 use Rattle.formulas.specs.declared.node.Node.{Node}
 use Rattle.formulas.specs.declared.node.Node.the-variants.{State, Dist}
-use Rattle.formulas.specs.declared.node.StateNode.{StateNode}
-use Rattle.formulas.specs.declared.node.DistNode.{DistNode}
 use Rattle.formulas.specs.declared.node.StateNode as sn
 use Rattle.formulas.specs.declared.node.DistNode as dn
 use Rattle.formulas.specs.declared.node.Run.{Run}
 use Rattle.formulas.specs.declared.node.Term.{Term}
 use Rattle.formulas.specs.Stands.{isState, isDist, below-state, below-dist, all-dist, term-ok, terms-ok, sum-ok, node-ok, terms-of, alternatives-of, walk, stands}
-use Rattle.formulas.specs.Lines.{state, constant, Line, part, line, lines}
+use Rattle.formulas.specs.Lines.{state, constant, part, line, lines}
 use Rattle.formulas.proofs.Fits.{Step-fit, Sum-fit, step-of, sum-of, part-add}
 use Rattle.formulas.specs.Right.{Below, Formed, Right, Right-step, Right-sum, All-right}
 

@@ -2,17 +2,15 @@
 use mathlib.Core.Path.{_≡_, refl, sym, ap, _∙_}
 use mathlib.Core.Bool.{Bool, true, false, not, _&&_, _||_}
 use mathlib.Core.List.{List, [], _∷_}
-use mathlib.Core.Logic.{_⊎_, inl, inr, ⊎-elim}
-use Prim.Native.Nat.{ℕ, zero, suc, zero-le, suc-le-suc, _*_, _≤_, _<_}
+use mathlib.Core.Logic.{_⊎_, inl, inr}
+use Prim.Native.Nat.{ℕ, zero, suc, zero-le, suc-le-suc, _*_, _<_}
 use native.Mathlib.Nat.{le-of-suc-le-suc, not-suc-le-zero}
 use lib.ListN.{length, getD}
 use Rattle.std.proofs.shelf.Tests.{and-parts, and-from, or-cases, or-left, or-right, not-true, not-from-false, both-ways, cases-bool, false≢true, leb-true, le-leb}
-use Rattle.std.specs.shelf.Lists.{sumBy}
 use Rattle.systems.specs.Meaning.{Meaning, Move, point}
 use Rattle.formulas.specs.Lines.{state, dist, Line, constant, both, non, step, sum}
-use Rattle.formulas.specs.Truths.{any, holds-at, holds-of, truths, truth, never, at-node, of-node, total}
-use Rattle.formulas.specs.Right.{Formed}
-use Rattle.formulas.specs.Satisfaction.{Iff, Some, Holds-in, Holds-of, Satisfied-in, Satisfied-of}
+use Rattle.formulas.specs.Truths.{any, holds-at, holds-of, truths, at-node, of-node, total}
+use Rattle.formulas.specs.Satisfaction.{Iff, Some, Satisfied-in, Satisfied-of}
 use Rattle.formulas.specs.Laws.{In-law, Of-law}
 use Rattle.formulas.proofs.Course.{truths-at}
 

@@ -1,5 +1,5 @@
 use mathlib.Core.Path.{_≡_, _∙_, sym}
-use mathlib.Core.Bool.{Bool, true, false}
+use mathlib.Core.Bool.{Bool, true}
 use mathlib.Core.List.{List}
 use Prim.Native.Nat.{ℕ}
 use Rattle.std.proofs.shelf.Tests.{eq-eqb, ne-eqb, and-from, and-left, and-right}

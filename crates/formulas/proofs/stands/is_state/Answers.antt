@@ -1,7 +1,6 @@
-use borrow.Author.Needs.{needs}
 use mathlib.Core.Path.{ap, sym, _∙_}
-use Rattle.std.proofs.shelf.Lists.{getD-past, getD-default, getD-read}
-use Rattle.formulas.specs.Stands.{stateSort, isState, no-dist}
+use Rattle.std.proofs.shelf.Lists.{getD-past, getD-default}
+use Rattle.formulas.specs.Stands.{stateSort, no-dist}
 use Rattle.formulas.proofs.stands.is_state.Needs as need
 
 pub returns-then-i-nodes : need.returns-then-i-nodes
