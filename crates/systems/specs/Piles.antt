@@ -1,14 +1,15 @@
 -- What a pile means: one system over another, with a shared set of actions A.
 use Prim.Native.Nat.{ℕ, _+_, _*_, _/_, _%_, _≤_}
+use mathlib.Core.Path.{_≡_}
 use mathlib.Core.List.{List, [], _∷_, _++_, map}
-use mathlib.Core.Bool.{Bool, _&&_, _||_, cond}
+use mathlib.Core.Bool.{Bool, true, false, _&&_, _||_, cond}
 use Rattle.std.specs.declared.option.Option.{Option}
 use Rattle.std.specs.declared.option.Option.the-variants.{Some, None}
 use Rattle.systems.specs.declared.fault.Fault.{Fault}
 use Rattle.systems.specs.declared.fault.Fault.the-variants.{Size, Mass}
 use lib.Dec.{eqb, ltb}
 use Rattle.systems.specs.declared.system.Target.{Target}
-use Rattle.systems.specs.Meaning.{Meaning, Move, point}
+use Rattle.systems.specs.Meaning.{Meaning, Move, Ruled, point}
 
 -- f of each of the first with each of the second, the first counted slowest
 unfoldable pub cross : {X Y Z : Type 0} → (X → Y → Z) → List X → List Y → List Z
@@ -56,6 +57,21 @@ fitted n m b s = record
   ; breadth = b
   ; moves = λ k a. cond (agrees n m b s) (s .moves k a) []
   }
+
+-- a pile whose numbers are n, m and b has no state s
+pub record Outside (A : ℕ → Bool) (n m b : ℕ) (U L : Meaning) (s : ℕ) : Type 0 where
+  pub without : inside n m b (pile A U L) s ≡ false
+
+-- the state s of a pile whose numbers are n, m and b is u over v
+pub record Split (A : ℕ → Bool) (n m b : ℕ) (U L : Meaning) (s u v : ℕ) : Type 0 where
+  pub within : inside n m b (pile A U L) s ≡ true
+  pub upper-at : u ≡ s / L .states
+  pub lower-at : v ≡ s % L .states
+  pub upper-ruled : Ruled U
+  pub lower-ruled : Ruled L
+  pub few-states : n ≤ 1073741824
+  pub light : m ≤ 1000000000000000
+  pub narrow : b ≤ 1073741824
 
 -- why a pile of these is refused
 abbrev pub refusal : Meaning → Meaning → Option Fault

@@ -1,6 +1,5 @@
 -- What two tables mean: move records, each with a run of target records.
-use Prim.Native.Nat.{ℕ, _+_, _≤_, _<_}
-use mathlib.Core.Path.{_≡_}
+use Prim.Native.Nat.{ℕ, zero, suc, _+_, _*_, max}
 use mathlib.Core.Bool.{Bool, true, _&&_}
 use mathlib.Core.List.{List, [], _∷_, map}
 use lib.Dec.{eqb, ltb, leb}
@@ -8,7 +7,12 @@ use lib.ListN.{length, getD, take, drop}
 use Rattle.std.specs.shelf.Lists.{kept-by}
 use Rattle.systems.specs.declared.system.Target.{Target}
 use Rattle.systems.specs.declared.records.MoveRecord.{MoveRecord}
-use Rattle.systems.specs.Meaning.{Meaning, Move, total}
+use Rattle.systems.specs.Meaning.{Meaning, Move}
+
+-- whether each element passes a test
+abbrev pub every : {X : Type 0} → (X → Bool) → List X → Bool
+every p [] = true
+every p (x ∷ xs) = p x && every p xs
 
 abbrev pub asks : ℕ → ℕ → MoveRecord → Bool
 asks k a r = eqb (r .state) k && eqb (r .action) a
@@ -21,40 +25,39 @@ asked k a rs = kept-by (asks k a) rs
 abbrev pub run : List Target → MoveRecord → Move
 run ts r = take (r .count) (drop (r .first) ts)
 
-abbrev pub table-meaning : ℕ → ℕ → List MoveRecord → List Target → Meaning
-table-meaning n b rs ts = record
+-- what stands past the end of a table
+abbrev pub no-record : MoveRecord
+no-record = record { state = 0; action = 0; first = 0; count = 0 }
+
+abbrev pub row : List MoveRecord → ℕ → MoveRecord
+row rs i = getD rs i no-record
+
+-- the longest list of moves or targets among the first records, and at least 2:
+-- each record has a list of targets, and makes the list of its state and action longer
+abbrev pub longest : List MoveRecord → ℕ → ℕ
+longest rs zero = 2
+longest rs (suc i) = max (longest rs i) (max (row rs i .count) (length (asked (row rs i .state) (row rs i .action) (take (i + 1) rs))))
+
+abbrev pub table-meaning : ℕ → List MoveRecord → List Target → Meaning
+table-meaning n rs ts = record
   { states = n
   ; mass = 1000
-  ; breadth = b
+  ; breadth = longest rs (length rs)
   ; moves = λ k a. map (run ts) (asked k a rs)
   }
+
+-- the record keeps the rules that ask for no other record, where there are so many target records
+abbrev pub fits-alone : ℕ → ℕ → MoveRecord → Bool
+fits-alone n places r =
+    ((ltb (r .state) n && ltb (r .action) 32) && (leb 1 (r .count) && leb (r .count) 64)) && leb (r .first + r .count) places
 
 -- each target goes to one of n states, with some weight
 abbrev pub good-target : ℕ → Target → Bool
 good-target n t = ltb (t .state) n && leb 1 (t .weight)
 
 abbrev pub good-run : ℕ → Move → Bool
-good-run n [] = true
-good-run n (t ∷ ts) = good-target n t && good-run n ts
+good-run n mv = every (good-target n) mv
 
--- what holds of each record
-abbrev pub At-each : (MoveRecord → Type 0) → List MoveRecord → Type 0
-At-each P rs = (i : ℕ) → (d : MoveRecord) → i < length rs → P (getD rs i d)
-
-abbrev pub Inside : ℕ → List MoveRecord → Type 0
-Inside n rs = At-each (λ r. r .state < n) rs
-
-abbrev pub Acts : List MoveRecord → Type 0
-Acts rs = At-each (λ r. r .action < 32) rs
-
-abbrev pub Sized : ℕ → ℕ → List MoveRecord → Type 0
-Sized b places rs = At-each (λ r. (r .count ≤ b) × (r .first + r .count ≤ places)) rs
-
-abbrev pub Whole : List MoveRecord → List Target → Type 0
-Whole rs ts = At-each (λ r. total (run ts r) ≡ 1000) rs
-
-abbrev pub Aims : ℕ → List Target → List MoveRecord → Type 0
-Aims n ts rs = At-each (λ r. good-run n (run ts r) ≡ true) rs
-
-abbrev pub Few : ℕ → List MoveRecord → Type 0
-Few b rs = (k a : ℕ) → length (asked k a rs) ≤ b
+-- the place of a state and an action, where each state has 32
+abbrev pub cell-of : ℕ → ℕ → ℕ
+cell-of k a = k * 32 + a

@@ -9,7 +9,7 @@ use crate::system::System;
 use crate::fault::Fault;
 use crate::system::Target;
 
-#[derive(Drop)]
+#[derive(Clone, Copy)]
 pub struct Lane {
     capacity: u32,
     put: u32,
@@ -22,8 +22,10 @@ pub struct Lane {
 }
 
 impl Lane {
+    // A lane for so many waiting jobs, with different actions to put and to take one; of 1,000 puts
+    // `loss` are lost.
     pub fn new(capacity: u32, put: u32, take: u32, loss: u32) -> Result<Lane, Fault>
-        ensures { λ r. ⌜ elim r [ Ok v ↦ (lane-numbers capacity put take loss ≡ true) × (v .capacity ≡ capacity) × (v .put ≡ put) × (v .take ≡ take) × (v .loss ≡ loss) | Err e ↦ (lane-numbers capacity put take loss ≡ false) × (e ≡ Fault.Number) ] ⌝ }
+        ensures { λ r. ⌜ elim r [ Ok v ↦ (lane-numbers capacity put take loss ≡ true) × (lane-meaning (v .capacity) (v .put) (v .take) (v .loss) ≡ lane-meaning capacity put take loss) | Err e ↦ (lane-numbers capacity put take loss ≡ false) × (e ≡ Fault.Number) ] ⌝ }
     {
         if capacity < 1 || capacity > 60 || put > 31 || take > 31 || put == take || loss > 999 {
             return Err(Fault::Number);

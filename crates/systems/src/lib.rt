@@ -1,9 +1,12 @@
 // Systems: what answers the six questions, and what the answers mean.
 pub mod actions;
+pub mod any;
 pub mod component;
 pub mod empty;
 pub mod fault;
 pub mod lane;
 pub mod pile;
 pub mod records;
+pub mod shared;
 pub mod system;
+mod tables;

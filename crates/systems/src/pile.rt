@@ -1,11 +1,12 @@
 // A system over another.
 ghost use mathlib.Core.Path.{_≡_};
 ghost use Prim.Native.Nat.{_≤_};
+ghost use Rattle.std.specs.Options.{Cases as BySome};
 ghost use Rattle.std.specs.declared.result.Result.the-variants.{Ok, Err};
 ghost use Rattle.std.specs.declared.option.Option.the-variants.{Some, None};
 ghost use Rattle.systems.specs.Actions.{has};
 ghost use Rattle.systems.specs.Meaning.{Between};
-ghost use Rattle.systems.specs.Piles.{pile, fitted, agrees, inside, refusal, both, Room};
+ghost use Rattle.systems.specs.Piles.{pile, fitted, inside, Outside, Split, refusal, both, Room};
 use crate::system::System;
 use crate::actions::ActionSet;
 use crate::fault::Fault;
@@ -47,7 +48,8 @@ impl<U: System, L: System> Pile<U, L> {
         })
     }
 
-    // Whether there is such a state, and the numbers are those of the parts.
+    // Whether there is such a state. No field can say that the three numbers are those of the parts,
+    // since it cannot speak of what a part means: so that is looked at here.
     fn has(&self, state: u32) -> bool
         ensures { λ r. ⌜ r ≡ inside (now (self .entry) .states) (now (self .entry) .mass) (now (self .entry) .breadth) (pile (has (now (self .entry) .shared)) (U·System .meaning (now (self .entry) .upper)) (L·System .meaning (now (self .entry) .lower))) state ⌝ }
     {
@@ -55,6 +57,17 @@ impl<U: System, L: System> Pile<U, L> {
         let mass = self.upper.mass() as u128 * self.lower.mass() as u128;
         let breadth = self.upper.breadth() as u64 * self.lower.breadth() as u64;
         state < self.states && states == self.states as u64 && mass == self.mass as u128 && breadth == self.breadth as u64
+    }
+
+    // The states of the two parts in a state of the pile.
+    fn split(&self, state: u32) -> Option<(u32, u32)>
+        ensures { λ r. ⌜ BySome r (Outside (has (now (self .entry) .shared)) (now (self .entry) .states) (now (self .entry) .mass) (now (self .entry) .breadth) (U·System .meaning (now (self .entry) .upper)) (L·System .meaning (now (self .entry) .lower)) state) (λ p. Split (has (now (self .entry) .shared)) (now (self .entry) .states) (now (self .entry) .mass) (now (self .entry) .breadth) (U·System .meaning (now (self .entry) .upper)) (L·System .meaning (now (self .entry) .lower)) state (p .0) (p .1)) ⌝ }
+    {
+        if !self.has(state) {
+            return None;
+        }
+        let k = self.lower.states();
+        Some((state / k, state % k))
     }
 }
 
@@ -91,22 +104,18 @@ pub impl<U: System, L: System> System for Pile<U, L> as PileSystem {
     }
 
     fn moves(&self, state: u32, action: u32) -> u32 {
-        if !self.has(state) {
+        let Some((u, v)) = self.split(state) else {
             return 0;
-        }
-        let k = self.lower.states();
-        let up = self.upper.moves(state / k, action);
-        let low = self.lower.moves(state % k, action);
+        };
+        let up = self.upper.moves(u, action);
+        let low = self.lower.moves(v, action);
         if self.shared.contains(action) { up * low } else { up + low }
     }
 
     fn targets(&self, state: u32, action: u32, mv: u32) -> u32 {
-        if !self.has(state) {
+        let Some((u, v)) = self.split(state) else {
             return 0;
-        }
-        let k = self.lower.states();
-        let u = state / k;
-        let v = state % k;
+        };
         if self.shared.contains(action) {
             let low = self.lower.moves(v, action);
             if low == 0 {
@@ -123,12 +132,10 @@ pub impl<U: System, L: System> System for Pile<U, L> as PileSystem {
     }
 
     fn target(&self, state: u32, action: u32, mv: u32, index: u32) -> Option<Target> {
-        if !self.has(state) {
+        let Some((u, v)) = self.split(state) else {
             return None;
-        }
+        };
         let k = self.lower.states();
-        let u = state / k;
-        let v = state % k;
         if self.shared.contains(action) {
             let low = self.lower.moves(v, action);
             if low == 0 {

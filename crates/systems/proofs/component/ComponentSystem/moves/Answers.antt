@@ -1,12 +1,9 @@
-use mathlib.Core.Path.{_≡_, sym, ap, _∙_}
-use mathlib.Core.List.{List}
-use lib.ListN.{length, length-map}
-use Rattle.std.specs.Of.Vec.{vec-items}
-use Rattle.systems.specs.declared.records.MoveRecord.{MoveRecord}
-use Rattle.systems.specs.Tables.{asked, run}
+use native.Mathlib.Omega.{arith}
+use Rattle.systems.proofs.Indexed.{few-rows, count-rows}
 use Rattle.systems.proofs.component.ComponentSystem.moves.Needs as need
 
+pub cast-result : need.cast-result
+cast-result c = omega (arith, c .args .self .now .broad .1, few-rows (c .listed .ensures))
+
 pub returns : need.returns
-returns c =
-    c .count .ensures ∙ ap (λ (rs : List MoveRecord). length (asked (c .args .state) (c .args .action) rs)) (c .deref .ensures .value)
-    ∙ sym (length-map (asked (c .args .state) (c .args .action) (vec-items (c .args .self .now .moves))) (run (vec-items (c .args .self .now .targets))))
+returns c = count-rows (c .listed .ensures)

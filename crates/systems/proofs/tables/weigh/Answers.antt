@@ -5,7 +5,7 @@ use Rattle.std.proofs.shelf.Lists.{take-all}
 use Rattle.std.proofs.shelf.Sums.{sumBy-more}
 use Rattle.systems.specs.declared.system.Target.{Target}
 use Rattle.systems.specs.Meaning.{total}
-use Rattle.systems.proofs.component.weigh.Needs as need
+use Rattle.systems.proofs.tables.weigh.Needs as need
 
 pub loop-t-again : need.loop-t-again
 loop-t-again c =
