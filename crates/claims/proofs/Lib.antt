@@ -1,0 +1,10 @@
+pub mod Soundness
+pub mod Totals
+pub mod Anys
+pub mod Marks
+pub mod Clears
+pub mod Truthful
+pub mod Reached
+pub mod Lookups
+pub mod Pastes
+pub mod Judging

@@ -1,0 +1,96 @@
+-- The marks of a row become truths, and the row becomes clear again.
+use mathlib.Core.Path.{_≡_, refl, sym, ap, _∙_, subst}
+use mathlib.Core.Bool.{Bool, true, false, cond}
+use mathlib.Core.List.{List, [], _∷_}
+use mathlib.Core.Logic.{_≢_, ⊎-elim}
+use Prim.Native.Nat.{ℕ, _+_, _-_, _≤_, _<_}
+use native.Mathlib.Omega.{arith}
+use lib.Dec.{eqb}
+use lib.ListN.{length, getD, set, take, drop}
+use Rattle.std.specs.shelf.Lists.{All}
+use Rattle.std.proofs.shelf.Lists.{getD-set-same, getD-set-other, ext-getD}
+use Rattle.std.proofs.shelf.Elements.{all-weaker}
+use Rattle.std.proofs.shelf.Tests.{cases-lt, cases-eq, cases-bool, eqb-true, eqb-false, cond-true, cond-false}
+use Rattle.systems.specs.Meaning.{Meaning, Move}
+use Rattle.formulas.specs.declared.node.Node.{Node}
+use Rattle.formulas.specs.declared.node.Run.{Run}
+use Rattle.formulas.specs.Lines.{part, entries}
+use Rattle.formulas.specs.Truths.{Truth, any, of-node}
+use Rattle.claims.specs.declared.tables.Tables.{Tables}
+use Rattle.claims.specs.Verdicts.{byte}
+use Rattle.claims.specs.Rows.{lit-row, Mark, marked, parts, no-node, Parted, Spread, settled, row-byte, Filling, Cleared, Clear}
+use Rattle.claims.specs.Boards.{truths-in, Sits, Agrees, Board}
+use Rattle.claims.proofs.Anys.{any-same}
+use Rattle.claims.proofs.Marks.{marked-all, marked-other}
+use Rattle.claims.proofs.Truthful.{byte-lit, row-byte-is, sits-parted}
+
+all-both : (P Q R : ℕ → Type 0) → ((p : ℕ) → P p → Q p → R p) → (ps : List ℕ) → All P ps → All Q ps → All R ps
+all-both P Q R f [] a b = tt
+all-both P Q R f (p ∷ ps) a b = (f p (a .0) (b .0), all-both P Q R f ps (a .1) (b .1))
+
+-- node j is passed on the way up
+module _ (M : Meaning) (t : Tables) (sits : Sits M t) (mv : Move) (within : All (λ u. u .state < M .states) mv) (table : List ℕ) (low j : ℕ) (old row : List ℕ) (f : Filling (truths-in M t) mv low j old row) where
+  fill-off : (getD row j 0 ≡ 2 → ⊥) → Filling (truths-in M t) mv low (j + 1) old row
+  fill-off ne = record {
+    told = λ k l m. ⊎-elim (λ e. absurd (ne (f .above j (omega arith) ∙ subst (Mark old) e m))) (λ u. f .told k (omega arith) m) (cases-eq k j);
+    below = f .below;
+    above = λ k l. f .above k (omega arith);
+  }
+
+  fill-on : (v : ℕ) → low ≤ j → j < length row → v ≡ byte (of-node (truths-in M t) j mv) → Filling (truths-in M t) mv low (j + 1) old (set row j v)
+  fill-on v lo h e = record {
+    told = λ k l m. ⊎-elim (λ q. subst (λ i. getD (set row j v) i 0 ≡ byte (of-node (truths-in M t) i mv)) (sym q) (getD-set-same row j v 0 h ∙ e)) (λ u. getD-set-other row j k v 0 u ∙ f .told k (omega arith) m) (cases-eq k j);
+    below = λ k l. getD-set-other row j k v 0 (omega arith) ∙ f .below k l;
+    above = λ k l. getD-set-other row j k v 0 (omega arith) ∙ f .above k (omega arith);
+  }
+
+  pub fill-more : (high : ℕ) (row′ : List ℕ) → ((k : ℕ) → k < high → Mark old k → All (Mark old) (parts (getD (t .nodes .now) k no-node))) → Agrees M (truths-in M t) table j → low ≤ j → j < high → j < length (t .nodes .now) → j < length row → row′ ≡ settled M (t .nodes .now) (t .terms .now) (t .alternatives .now) table mv j row → Filling (truths-in M t) mv low (j + 1) old row′
+  fill-more high row′ closed agrees lo hi here h e =
+      let Good : List ℕ → Type 0 = Filling (truths-in M t) mv low (j + 1) old in
+      let v = row-byte M (t .terms .now) (t .alternatives .now) table row (getD (t .nodes .now) j no-node) mv in
+      ⊎-elim
+      (λ on.
+        let mark : Mark old j = sym (f .above j (omega arith)) ∙ eqb-true (getD row j 0) 2 on in
+        let known = all-both (λ p. p < j) (Mark old) (λ p. getD row p 0 ≡ byte (of-node (truths-in M t) p mv)) (λ p l m. f .told p l m) (parts (getD (t .nodes .now) j no-node)) (sits-parted M t sits j here) (closed j hi mark) in
+        subst Good (sym (e ∙ cond-true (eqb (getD row j 0) 2) (set row j v) row on)) (fill-on v lo h (row-byte-is M t table j agrees sits here mv within row known)))
+      (λ off. subst Good (sym (e ∙ cond-false (eqb (getD row j 0) 2) (set row j v) row off)) (fill-off (eqb-false (getD row j 0) 2 off)))
+      (cases-bool (eqb (getD row j 0) 2))
+
+-- `&s[first..first + count]`
+pub sliced : {X : Type 0} (xs : List X) (r : Run) → take (r .first + r .count - r .first) (drop (r .first) xs) ≡ entries xs r
+sliced xs r = ap (λ k. take k (drop (r .first) xs)) (omega arith)
+
+-- from a clear row, the nodes wanted are marked, and then all that they reach, from low to high
+module _ (ns : List Node) (wanted old spread : List ℕ) (upto start low high : ℕ) (clear : Clear upto old) (long : upto ≤ length old) (top : high ≤ upto) (around : All (λ d. (start ≤ d) × (d < high)) wanted) (s : Spread ns low start low high (marked old wanted) spread) where
+  outside : (k : ℕ) → (k < low) → getD (marked old wanted) k 0 ≡ getD old k 0
+  outside k l = marked-other wanted old k (all-weaker (λ d. (start ≤ d) × (d < high)) (λ d. k ≢ d) (λ d a. omega (arith, a .0, s .lower)) wanted around)
+
+  pub reach-bare : low ≤ high → (k : ℕ) → k < low → Mark spread k → ⊥
+  reach-bare h k l m = let z = s .below k l ∙ outside k l ∙ clear k (omega arith) in omega arith
+
+  pub reach-closed : low ≤ high → (k : ℕ) → k < high → Mark spread k → All (Mark spread) (parts (getD ns k no-node))
+  reach-closed h k l m =
+      ⊎-elim
+      (λ lo. absurd (reach-bare h k lo m))
+      (λ hi. s .closed k hi l m)
+      (cases-lt k low)
+
+  named : All (Mark spread) wanted
+  named = all-weaker (Mark (marked old wanted)) (Mark spread) (s .stays) wanted (marked-all wanted old (all-weaker (λ d. (start ≤ d) × (d < high)) (λ d. d < length old) (λ d a. omega (arith, a .1)) wanted around))
+
+  module _ (T : List Truth) (mv : Move) (filled : List ℕ) (f : Filling T mv low high spread filled) where
+    pub reach-any : (answer : Bool) → answer ≡ any (lit-row filled) wanted → answer ≡ any (λ d. of-node T d mv) wanted
+    reach-any answer e =
+        e ∙ any-same (λ d. (d < high) × Mark spread d) (lit-row filled) (λ d. of-node T d mv) (λ d a. byte-lit (of-node T d mv) _ (f .told d (a .0) (a .1))) wanted
+        (all-both (λ d. (start ≤ d) × (d < high)) (Mark spread) (λ d. (d < high) × Mark spread d) (λ d a m. (a .1, m)) wanted around named)
+
+    pub reach-clear : (row : List ℕ) → length row ≡ length old → Cleared low high filled row → row ≡ old
+    reach-clear row e c =
+        ext-getD 0 row old e
+        (λ k _. ⊎-elim
+          (λ lo. c .below k lo ∙ f .below k lo ∙ s .below k lo ∙ outside k lo)
+          (λ ge. ⊎-elim
+            (λ mid. c .zeros k ge mid ∙ sym (clear k (omega arith)))
+            (λ hi. c .above k hi ∙ f .above k hi ∙ s .above k hi ∙ marked-other wanted old k (all-weaker (λ d. (start ≤ d) × (d < high)) (λ d. k ≢ d) (λ d a. omega (arith, a .1)) wanted around))
+            (cases-lt k high))
+          (cases-lt k low))

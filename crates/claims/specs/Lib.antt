@@ -1,0 +1,7 @@
+pub mod Refusals
+pub mod Claims
+pub mod Verdicts
+pub mod Spots
+pub mod Sums
+pub mod Rows
+pub mod Boards
