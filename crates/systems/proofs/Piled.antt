@@ -20,7 +20,8 @@ use Rattle.std.proofs.shelf.Elements.{all-getD}
 use Rattle.std.proofs.shelf.Sums.{getD-le-sumBy}
 use Rattle.systems.specs.declared.system.Target.{Target}
 use Rattle.systems.specs.Meaning.{Meaning, Move, Ruled, Good, Aimed, point, total}
-use Rattle.systems.specs.Piles.{cross, over, pair, moves-over, pile-moves, pile, both}
+use Rattle.systems.specs.Piles.{cross, over, pair, moves-over, pile-moves, pile}
+use Rattle.systems.specs.Fitted.{both}
 use Rattle.systems.proofs.Cross.{length-cross, getD-cross}
 
 pub both-none : (k : ℕ) (o : Option Target) → both k None o ≡ None

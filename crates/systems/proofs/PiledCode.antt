@@ -20,7 +20,8 @@ use Rattle.std.proofs.shelf.Elements.{all-getD}
 use Rattle.std.proofs.shelf.Sums.{getD-le-sumBy}
 use Rattle.systems.specs.declared.system.Target.{Target}
 use Rattle.systems.specs.Meaning.{Meaning, Move, Ruled, Good, Aimed, point, total}
-use Rattle.systems.specs.Piles.{cross, over, pair, moves-over, pile-moves, pile, fitted, agrees, inside, Outside, Split, both, Room}
+use Rattle.systems.specs.Piles.{cross, over, pair, moves-over, pile-moves, pile}
+use Rattle.systems.specs.Fitted.{fitted, agrees, inside, Outside, Split, both, Room}
 use Rattle.systems.proofs.Cross.{length-cross}
 use Rattle.systems.proofs.Piled.{inside-moves, outside-moves, shared-moves, apart-moves, shared-count, apart-count, shared-move, upper-move, lower-move, nil-cross, cross-nil, nth-pair, good-move}
 use Rattle.systems.proofs.PiledSound.{Same, same-numbers, sum-le-product, sound-piled, upper-below, lower-below}

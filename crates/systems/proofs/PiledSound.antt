@@ -15,7 +15,8 @@ use Rattle.std.proofs.shelf.Bits.{div-below, mod-below}
 use Rattle.std.proofs.shelf.Elements.{all-append, all-map, all-weaker}
 use Rattle.systems.specs.declared.system.Target.{Target}
 use Rattle.systems.specs.Meaning.{Meaning, Move, Ruled, Sound, Between, Good, Aimed, point, total}
-use Rattle.systems.specs.Piles.{cross, over, pair, moves-over, pile-moves, pile, fitted, agrees}
+use Rattle.systems.specs.Piles.{cross, over, pair, moves-over, pile-moves, pile}
+use Rattle.systems.specs.Fitted.{fitted, agrees}
 use Rattle.systems.proofs.Cross.{length-cross, all-cross, sum-cross, pos-right}
 use Rattle.systems.proofs.Piled.{inside-moves, outside-moves, shared-moves, apart-moves, shared-count, apart-count, nil-cross}
 

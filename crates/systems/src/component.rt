@@ -22,6 +22,8 @@ use crate::system::Target;
 use crate::tables::cell;
 use crate::tables::survey;
 
+// The moves of each state and action are a list of records of their own, so that every question is
+// answered in constant time.
 #[derive(Drop)]
 pub struct Component {
     states: u32,
@@ -68,7 +70,7 @@ fn grouped(heap: Global, states: u32, rows: &[MoveRecord]) -> Result<Vec<Vec<Mov
 }
 
 impl Component {
-    // A component of so many states, with the moves and targets of the tables.
+    // The component that two tables make: what it means is what the tables mean.
     pub fn mount(heap: Global, states: u32, moves: &[MoveRecord], targets: &[Target]) -> Result<Component, MountFault>
         ensures { λ r. ⌜ elim r [ Ok v ↦ (mount-fault states (now (moves .entry)) (now (targets .entry)) ≡ None) × (index-meaning (v .states) (v .breadth) (map vec-items (vec-items (v .cells))) (vec-items (v .targets)) ≡ table-meaning states (now (moves .entry)) (now (targets .entry))) | Err f ↦ mount-fault states (now (moves .entry)) (now (targets .entry)) ≡ blamed f ] ⌝ }
     {

@@ -1,4 +1,4 @@
-// The empty system of a shared set.
+// The empty system of a shared set: it has one state, and takes part in every shared action.
 ghost use Rattle.systems.specs.Actions.{has};
 ghost use Rattle.systems.specs.Kinds.{empty-meaning};
 use crate::system::System;

@@ -1,4 +1,4 @@
-// A lane: jobs are put and taken, and a put may be lost.
+// A lane: jobs are put and taken, and a put may be lost. Its state is the number of waiting jobs.
 ghost use mathlib.Core.Path.{_≡_};
 ghost use mathlib.Core.Bool.{true, false};
 ghost use Prim.Native.Nat.{_≤_, _<_};

@@ -6,12 +6,18 @@ ghost use Rattle.std.specs.declared.result.Result.the-variants.{Ok, Err};
 ghost use Rattle.std.specs.declared.option.Option.the-variants.{Some, None};
 ghost use Rattle.systems.specs.Actions.{has};
 ghost use Rattle.systems.specs.Meaning.{Between};
-ghost use Rattle.systems.specs.Piles.{pile, fitted, inside, Outside, Split, refusal, both, Room};
+ghost use Rattle.systems.specs.Piles.{pile, refusal};
+ghost use Rattle.systems.specs.Fitted.{fitted, inside, Outside, Split, both, Room};
 use crate::system::System;
 use crate::actions::ActionSet;
 use crate::fault::Fault;
 use crate::system::Target;
 
+const LARGEST_SIZE: u64 = 1_073_741_824;
+const LARGEST_MASS: u128 = 1_000_000_000_000_000;
+
+// The upper system over the lower one: they take part together in the actions of the shared set, and
+// move apart in the others.
 #[derive(Drop)]
 pub struct Pile<U: System, L: System> {
     upper: U,
@@ -26,16 +32,17 @@ pub struct Pile<U: System, L: System> {
 }
 
 impl<U: System, L: System> Pile<U, L> {
+    // The pile of two systems, or both of them back with the reason why there is none.
     pub fn new(upper: U, lower: L, shared: ActionSet) -> Result<Pile<U, L>, (U, L, Fault)>
         ensures { λ r. ⌜ elim r [ Ok p ↦ (refusal (U·System .meaning upper) (L·System .meaning lower) ≡ None) × (fitted (p .states) (p .mass) (p .breadth) (pile (has (p .shared)) (U·System .meaning (p .upper)) (L·System .meaning (p .lower))) ≡ pile (has shared) (U·System .meaning upper) (L·System .meaning lower)) | Err e ↦ (refusal (U·System .meaning upper) (L·System .meaning lower) ≡ Some (e .2)) × (e .0 ≡ upper) × (e .1 ≡ lower) ] ⌝ }
     {
         let states = upper.states() as u64 * lower.states() as u64;
         let breadth = upper.breadth() as u64 * lower.breadth() as u64;
-        if states > 1073741824 || breadth > 1073741824 {
+        if states > LARGEST_SIZE || breadth > LARGEST_SIZE {
             return Err((upper, lower, Fault::Size));
         }
         let mass = upper.mass() as u128 * lower.mass() as u128;
-        if mass > 1000000000000000 {
+        if mass > LARGEST_MASS {
             return Err((upper, lower, Fault::Mass));
         }
         Ok(Pile {
@@ -71,7 +78,7 @@ impl<U: System, L: System> Pile<U, L> {
     }
 }
 
-// One target over another, where the lower system has k states.
+// One target over another, where the lower system has `k` states.
 fn joined(k: u32, upper: Option<Target>, lower: Option<Target>) -> Option<Target>
     requires { ⌜ Room k upper lower ⌝ }
     ensures { λ r. ⌜ r ≡ both k upper lower ⌝ }
