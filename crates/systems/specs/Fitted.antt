@@ -20,12 +20,12 @@ inside n m b s k = ltb k n && agrees n m b s
 
 -- s, if it has these numbers; else a system that has them, and no moves
 abbrev pub fitted : ℕ → ℕ → ℕ → Meaning → Meaning
-fitted n m b s = record
-  { states = n
-  ; mass = m
-  ; breadth = b
-  ; moves = λ k a. cond (agrees n m b s) (s .moves k a) []
-  }
+fitted n m b s = record {
+  states = n;
+  mass = m;
+  breadth = b;
+  moves = λ k a. cond (agrees n m b s) (s .moves k a) [];
+}
 
 -- a pile whose numbers are n, m and b has no state s
 pub record Outside (A : ℕ → Bool) (n m b : ℕ) (U L : Meaning) (s : ℕ) : Type 0 where

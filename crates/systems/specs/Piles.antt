@@ -34,12 +34,12 @@ pile-moves A U L k a =
     cond (ltb k (U .states * L .states)) (moves-over A U L (k / L .states) (k % L .states) a) []
 
 abbrev pub pile : (ℕ → Bool) → Meaning → Meaning → Meaning
-pile A U L = record
-  { states = U .states * L .states
-  ; mass = U .mass * L .mass
-  ; breadth = U .breadth * L .breadth
-  ; moves = pile-moves A U L
-  }
+pile A U L = record {
+  states = U .states * L .states;
+  mass = U .mass * L .mass;
+  breadth = U .breadth * L .breadth;
+  moves = pile-moves A U L;
+}
 
 -- why a pile of these is refused
 abbrev pub refusal : Meaning → Meaning → Option Fault

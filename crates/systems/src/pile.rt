@@ -1,6 +1,5 @@
 // A system over another.
 ghost use mathlib.Core.Path.{_≡_};
-ghost use Prim.Native.Nat.{_≤_};
 ghost use Rattle.std.specs.Options.{Cases as BySome};
 ghost use Rattle.std.specs.declared.result.Result.the-variants.{Ok, Err};
 ghost use Rattle.std.specs.declared.option.Option.the-variants.{Some, None};
@@ -8,12 +7,13 @@ ghost use Rattle.systems.specs.Actions.{has};
 ghost use Rattle.systems.specs.Meaning.{Between};
 ghost use Rattle.systems.specs.Piles.{pile, refusal};
 ghost use Rattle.systems.specs.Fitted.{fitted, inside, Outside, Split, both, Room};
-use crate::system::System;
 use crate::actions::ActionSet;
 use crate::fault::Fault;
+use crate::system::System;
 use crate::system::Target;
 
 const LARGEST_SIZE: u64 = 1_073_741_824;
+
 const LARGEST_MASS: u128 = 1_000_000_000_000_000;
 
 // The upper system over the lower one: they take part together in the actions of the shared set, and
@@ -63,7 +63,10 @@ impl<U: System, L: System> Pile<U, L> {
         let states = self.upper.states() as u64 * self.lower.states() as u64;
         let mass = self.upper.mass() as u128 * self.lower.mass() as u128;
         let breadth = self.upper.breadth() as u64 * self.lower.breadth() as u64;
-        state < self.states && states == self.states as u64 && mass == self.mass as u128 && breadth == self.breadth as u64
+        state < self.states
+            && states == self.states as u64
+            && mass == self.mass as u128
+            && breadth == self.breadth as u64
     }
 
     // The states of the two parts in a state of the pile.
@@ -116,7 +119,11 @@ pub impl<U: System, L: System> System for Pile<U, L> as PileSystem {
         };
         let up = self.upper.moves(u, action);
         let low = self.lower.moves(v, action);
-        if self.shared.contains(action) { up * low } else { up + low }
+        if self.shared.contains(action) {
+            up * low
+        } else {
+            up + low
+        }
     }
 
     fn targets(&self, state: u32, action: u32, mv: u32) -> u32 {
@@ -128,7 +135,8 @@ pub impl<U: System, L: System> System for Pile<U, L> as PileSystem {
             if low == 0 {
                 return 0;
             }
-            return self.upper.targets(u, action, mv / low) * self.lower.targets(v, action, mv % low);
+            return self.upper.targets(u, action, mv / low)
+                * self.lower.targets(v, action, mv % low);
         }
         let up = self.upper.moves(u, action);
         if mv < up {
