@@ -95,6 +95,10 @@ right-behind stop L M pre ws (Err f) to from r =
 abbrev pub Seq : {A B : Type 0} → Lang A → (A → Lang B) → Lang B
 Seq {A} L M w b u v = (a : A) × (s : Toks) × L w a u s × M a w b s v
 
+pub seq-begins : {A B : Type 0} (L : Lang A) (M : A → Lang B) (k : Toks) → Begins L k → ((a : A) → Begins (M a) []) → Begins (Seq L M) k
+seq-begins L M k g some =
+    let b = some (g .0) in (b .0, λ v. let s = b .1 v in let n = g .1 (s .0) in (n .0, (g .0, s .0, n .1, s .1)))
+
 pub seq-clear : {A B : Type 0} (L : Lang A) (M : A → Lang B) → Clear L → ((a : A) → Clear (M a)) → Clear (Seq L M)
 seq-clear L M l m w w′ b b′ u v v′ h h′ =
     let e = l w w′ (h .0) (h′ .0) u (h .1) (h′ .1) (h .2) (h′ .2) in
@@ -123,7 +127,7 @@ module _ {A B : Type 0} (stop : ℕ) (L : Lang A) (M : A → Lang B) (clear : Cl
       subst (λ l. Right stop (Seq L M) (f (x .0) (x .1)) l) (sym (r .1)) (seq-rest (x .0) (r .0) (x .1) (f (x .0) (x .1)) (r .2) (rs (x .0) (x .1)))
   right-then (Err e) f ws some r rs =
       refused-behind stop L (Seq L M) [] ws e
-        (λ k g. let b = some (g .0) in (b .0, λ v. let s = b .1 v in let n = g .1 (s .0) in (n .0, (g .0, s .0, n .1, s .1))))
+        (λ k g. seq-begins L M k g some)
         (λ w k s. (s .2 .0, s .2 .1, s .2 .2))
         r
 
@@ -133,6 +137,9 @@ Done a w b u v = (b ≡ a) × (u ≡ v)
 
 pub right-done : {A : Type 0} (stop : ℕ) (a : A) (rest : List Item) → Right stop (Done a) (Ok (a, rest)) rest
 right-done stop a rest = ([], refl, λ w v. (refl, refl))
+
+pub done-some : {A : Type 0} (a : A) → Begins (Done a) []
+done-some a = (a, λ v. (v, (refl, refl)))
 
 -- a value that one word says
 abbrev pub Just : {A : Type 0} → Token → A → Lang A
