@@ -9,7 +9,7 @@ use Rattle.formulas.specs.declared.token.Token.{Token}
 use Rattle.formulas.specs.declared.token.Token.the-variants.{Open, Close, True, False, And, Not, Dia, Here, Prob, AtLeast, Plus, Times, Numeral}
 use Rattle.formulas.specs.Lines.{Sort, state, dist}
 use Rattle.formulas.specs.Trees.{Tree, leaf, conj, neg, dia, here, at-least, Products, none, product, Of-sort, Of-products, In-range, In-ranges, count, coefficients, depth, sum-depth, products-depth}
-use Rattle.formulas.proofs.Written.{Toks, write, write-products, write-sum, shape, sum-shape, products-shape, told, sum-told}
+use Rattle.formulas.proofs.Written.{Toks, write, write-products, write-sum, shape, sum-shape, products-shape, told, products-told, sum-told}
 use Rattle.formulas.proofs.Outcomes.{Lang, Begins, Clear, Proper, Seq, Just, Done}
 
 -- a number from low to high
@@ -218,3 +218,6 @@ several-opens more left room =
     ( some-products (suc more)
     , λ v. (Some Times ∷ Some (Numeral 0) ∷ Some Open ∷ Some Prob ∷ Some True ∷ Some Close ∷ Some Close ∷ write-products (some-products more) (Some Close ∷ v)
            , some-several more left room (suc more) (omega arith) v) )
+
+pub several-clear : (more left room : ℕ) → Clear (Several more left room)
+several-clear more left room w w′ a a′ u v v′ h h′ = products-told a a′ v v′ (sym (h .spelled) ∙ h′ .spelled)

@@ -296,3 +296,6 @@ mutual
 
 pub sum-told : (ks ls : Products) (v v′ : Toks) → write-sum ks v ≡ write-sum ls v′ → (ks ≡ ls) × (v ≡ v′)
 sum-told ks ls v v′ e = told-sum ks (all-told ks) ls v v′ e
+
+pub products-told : (ks ls : Products) (v v′ : Toks) → write-products ks (Some Close ∷ v) ≡ write-products ls (Some Close ∷ v′) → (ks ≡ ls) × (v ≡ v′)
+products-told ks ls v v′ e = told-products ks (all-told ks) ls v v′ e
