@@ -1,23 +1,30 @@
--- The law of reading: which texts are accepted, and what a misplaced word means.
+-- The law of reading: which texts are accepted, and what each refusal of a text means.
 use mathlib.Core.Bool.{Bool, true}
 use mathlib.Core.List.{List, [], _∷_, _++_, map}
 use mathlib.Core.Path.{_≡_}
 use Prim.Native.Nat.{ℕ, _≤_}
 use lib.ListN.{length}
 use Rattle.std.specs.declared.option.Option.{Option}
-use Rattle.std.specs.declared.option.Option.the-variants.{Some}
+use Rattle.std.specs.declared.option.Option.the-variants.{Some, None}
 use Rattle.std.specs.declared.result.Result.the-variants.{Ok, Err}
+use Rattle.formulas.specs.declared.fault.GrammarFault.{GrammarFault}
+use Rattle.formulas.specs.declared.fault.GrammarFault.the-variants.{Word, Misplaced, OutOfRange, TooMany}
 use Rattle.formulas.specs.declared.token.Token.{Token}
-use Rattle.formulas.specs.Grammar.{items}
+use Rattle.formulas.specs.declared.token.Token.the-variants.{Open, Numeral}
+use Rattle.formulas.specs.Grammar.{Item, items, parse}
 use Rattle.formulas.specs.Layout.{node-table, term-table, alternative-table, fills}
 use Rattle.formulas.specs.Lines.{state}
 use Rattle.formulas.specs.Reading.{Slots, fits, reading}
 use Rattle.formulas.specs.Stands.{stands}
 use Rattle.formulas.specs.Trees.{Tree, spell, Of-sort, In-range, depth, below, lay}
 
--- the words of a text, each by its token if it has one
+-- words, each by its token if it has one
+abbrev pub tokens-of : List Item → List (Option Token)
+tokens-of ws = map (λ i. i .1) ws
+
+-- the words of a text
 abbrev pub tokens : List ℕ → List (Option Token)
-tokens text = map (λ i. i .1) (items text 0)
+tokens text = tokens-of (items text 0)
 
 -- the words of a text are those of a tree
 abbrev pub Spells : List ℕ → Tree → Type 0
@@ -35,9 +42,39 @@ pub record Accepts (text : List ℕ) (s : Slots) (t : Tree) : Type 0 where
   pub allowed : Allowed t
   pub room : fits (fills (lay state 0 t)) s ≡ true
 
+-- the words begin the spelling of some state term, its limits aside; of some state term within the limits
+abbrev pub Begin-term : List (Option Token) → Type 0
+Begin-term ws = (t : Tree) × (more : List (Option Token)) × Of-sort state t × (map Some (spell t) ≡ ws ++ more)
+
+abbrev pub Begin-allowed : List (Option Token) → Type 0
+Begin-allowed ws = (t : Tree) × (more : List (Option Token)) × Allowed t × (map Some (spell t) ≡ ws ++ more)
+
+-- what is wrong behind the words ws, where back are the words from there on and the text ends at stop
+abbrev pub Wrong : ℕ → List (Option Token) → List Item → GrammarFault → Type 0
+-- the text ends, and the words are no state term yet
+Wrong stop ws [] f = (f ≡ Misplaced stop) × ((t : Tree) → Of-sort state t → map Some (spell t) ≡ ws → ⊥)
+-- the next word is none of the language
+Wrong stop ws (i ∷ back) (Word g) = (i .0 ≡ g .place) × (i .1 ≡ None)
+-- no state term goes on with the next word
+Wrong stop ws (i ∷ back) (Misplaced p) = (i .0 ≡ p) × ((t : Token) × (i .1 ≡ Some t)) × (Begin-term (ws ++ (i .1 ∷ [])) → ⊥)
+-- one does that has no limits, and none within them
+Wrong stop ws (i ∷ back) (OutOfRange p) =
+    (i .0 ≡ p) × ((n : ℕ) × (i .1 ≡ Some (Numeral n))) × Begin-term (ws ++ (i .1 ∷ [])) × (Begin-allowed (ws ++ (i .1 ∷ [])) → ⊥)
+Wrong stop ws (i ∷ back) (TooMany p) =
+    (i .0 ≡ p) × (i .1 ≡ Some Open) × Begin-term (ws ++ (i .1 ∷ [])) × (Begin-allowed (ws ++ (i .1 ∷ [])) → ⊥)
+
+-- a text is refused at the first word behind which something is wrong
+pub record Refusal (text : List ℕ) (f : GrammarFault) : Type 0 where
+  pub front : List Item
+  pub back : List Item
+  pub split : items text 0 ≡ front ++ back
+  pub begun : Begin-term (tokens-of front)
+  pub wrong : Wrong (length text) (tokens-of front) back f
+
 pub record Reading-law : Type 0 where
   pub sound : (text : List ℕ) (s : Slots) (t : Tree) → reading text s ≡ Ok t → Accepts text s t
   pub complete : (text : List ℕ) (s : Slots) (t : Tree) → Accepts text s t → reading text s ≡ Ok t
+  pub refused : (text : List ℕ) (f : GrammarFault) → parse text ≡ Err f → Refusal text f
   -- two trees never share a spelling
   pub unique : (x y : Tree) → spell x ≡ spell y → x ≡ y
   -- what is laid out is a formula
