@@ -2,5 +2,6 @@
 pub mod draft;
 pub mod fault;
 pub mod node;
+pub mod spelling;
 pub mod token;
 pub mod words;
