@@ -53,7 +53,7 @@ toks-split ws front back e = ap toks e ∙ map-append (λ i. i .1) front back
 
 -- words that are refused say nothing that is allowed
 never-said : {A : Type 0} (stop : ℕ) (L : Bool → A → Toks → Toks → Type 0) (u : Toks) (back : List Item) (f : GrammarFault)
-  → Cause stop L u back f → ((w : Bool) → Starts L w (u ++ toks back)) → ⊥
+    → Cause stop L u back f → ((w : Bool) → Starts L w (u ++ toks back)) → ⊥
 never-said stop L u [] f c s = c .1 (subst (λ k. Starts L false k) (append-nil u) (s false))
 never-said stop L u (i ∷ is) (Word g) c s = c .2 (toks is) (s false)
 never-said stop L u (i ∷ is) (Misplaced p) c s = c .2 (toks is) (s false)
@@ -62,12 +62,13 @@ never-said stop L u (i ∷ is) (TooMany p) c s = c .3 (toks is) (s true)
 
 module _ (stop : ℕ) (ws : List Item) where
   sound-lone : (t x : Tree) (front rest : List Item) → ws ≡ front ++ rest → ((w : Bool) (v : Toks) → Said 64 state w x (toks front ++ v) v)
-    → lone x rest ≡ Ok t → (toks ws ≡ map Some (spell t)) × Allowed t
+      → lone x rest ≡ Ok t → (toks ws ≡ map Some (spell t)) × Allowed t
   sound-lone t x front [] e said o =
       let same : x ≡ t = cc in
-      let h : Said 64 state true t (toks front ++ []) [] = subst (λ y. Said 64 state true y (toks front ++ []) []) same (said true []) in
-      ( toks-split ws front [] e ∙ h .spelled ∙ sym (spell-write t)
-      , record { sorted = h .sorted; ranged = h .within .0; shallow = h .within .1 } )
+      let h : Said 64 state true t (toks front ++ []) [] = subst (λ y. Said 64 state true y (toks front ++ []) []) same (said true []) in (
+        toks-split ws front [] e ∙ h .spelled ∙ sym (spell-write t),
+        record { sorted = h .sorted; ranged = h .within .0; shallow = h .within .1 },
+      )
   sound-lone t x front (i ∷ rest) e said o = absurd (let z : _≡_ {A = ℕ} 0 1 = cc in let y : ⊥ = omega arith in y)
 
   sound-of : (o : Out Tree) (t : Tree) → Right stop (Said 64 state) o ws → finish o ≡ Ok t → (toks ws ≡ map Some (spell t)) × Allowed t
@@ -84,7 +85,7 @@ module _ (stop : ℕ) (ws : List Item) where
       complete-lone t (x .0) (x .1) (k .0) (k .1)
   complete-of (Err f) t r e a =
       absurd (never-said stop (Said 64 state) (toks (r .0)) (r .1) f (r .4)
-        (λ w. (t, [], allowed-said t (toks (r .0) ++ toks (r .1)) a (sym e ∙ toks-split ws (r .0) (r .1) (r .2)) w)))
+      (λ w. (t, [], allowed-said t (toks (r .0) ++ toks (r .1)) a (sym e ∙ toks-split ws (r .0) (r .1) (r .2)) w)))
 
   -- a word behind the words of a term
   behind-term : (x t : Tree) (u more : Toks) (k : Option Token) → ((v : Toks) → u ++ v ≡ write x v) → map Some (spell t) ≡ (u ++ (k ∷ [])) ++ more → ⊥
@@ -102,25 +103,34 @@ module _ (stop : ℕ) (ws : List Item) where
   Refusal-of f = (front : List Item) × (back : List Item) × (ws ≡ front ++ back) × Begin-term (toks front) × Wrong stop (toks front) back f
 
   refused-lone : (f : GrammarFault) (x : Tree) (front rest : List Item) → ws ≡ front ++ rest → ((w : Bool) (v : Toks) → Said 64 state w x (toks front ++ v) v)
-    → lone x rest ≡ Err f → Refusal-of f
+      → lone x rest ≡ Err f → Refusal-of f
   refused-lone f x front [] e said o = absurd (let z : _≡_ {A = ℕ} 0 1 = cc in let y : ⊥ = omega arith in y)
   refused-lone f x front (i ∷ rest) e said o =
-      let g : stray (i .0) (i .1) ≡ f = cc in
-      ( front, i ∷ rest, e
-      , begin-term (toks front) (x, λ v. (v, said false v))
-      , subst (λ y. Wrong stop (toks front) (i ∷ rest) y) g (stray-wrong x (toks front) (i .0) (i .1) rest (λ v. said false v .spelled)) )
+      let g : stray (i .0) (i .1) ≡ f = cc in (
+        front,
+        i ∷ rest,
+        e,
+        begin-term (toks front) (x, λ v. (v, said false v)),
+        subst (λ y. Wrong stop (toks front) (i ∷ rest) y) g (stray-wrong x (toks front) (i .0) (i .1) rest (λ v. said false v .spelled)),
+      )
 
   wrong-of : (u : Toks) (back : List Item) (f : GrammarFault) → Cause stop (Said 64 state) u back f → Wrong stop u back f
   wrong-of u [] f c = (c .0, λ t s e. c .1 (t, [], loose-said t u s e))
   wrong-of u (i ∷ is) (Word g) c = (c .0, c .1)
   wrong-of u (i ∷ is) (Misplaced p) c =
       (c .0, c .1, λ b. c .2 (b .1) (b .0, [], loose-said (b .0) (u ++ (i .1 ∷ b .1)) (b .2) (b .3 ∙ append-assoc u (i .1 ∷ []) (b .1))))
-  wrong-of u (i ∷ is) (OutOfRange p) c =
-      ( c .0, c .1, begin-term (u ++ (i .1 ∷ [])) (c .2)
-      , λ b. c .3 (b .1) (b .0, [], allowed-said (b .0) (u ++ (i .1 ∷ b .1)) (b .2) (b .3 ∙ append-assoc u (i .1 ∷ []) (b .1)) true) )
-  wrong-of u (i ∷ is) (TooMany p) c =
-      ( c .0, c .1, begin-term (u ++ (i .1 ∷ [])) (c .2)
-      , λ b. c .3 (b .1) (b .0, [], allowed-said (b .0) (u ++ (i .1 ∷ b .1)) (b .2) (b .3 ∙ append-assoc u (i .1 ∷ []) (b .1)) true) )
+  wrong-of u (i ∷ is) (OutOfRange p) c = (
+    c .0,
+    c .1,
+    begin-term (u ++ (i .1 ∷ [])) (c .2),
+    λ b. c .3 (b .1) (b .0, [], allowed-said (b .0) (u ++ (i .1 ∷ b .1)) (b .2) (b .3 ∙ append-assoc u (i .1 ∷ []) (b .1)) true),
+  )
+  wrong-of u (i ∷ is) (TooMany p) c = (
+    c .0,
+    c .1,
+    begin-term (u ++ (i .1 ∷ [])) (c .2),
+    λ b. c .3 (b .1) (b .0, [], allowed-said (b .0) (u ++ (i .1 ∷ b .1)) (b .2) (b .3 ∙ append-assoc u (i .1 ∷ []) (b .1)) true),
+  )
 
   refused-of : (o : Out Tree) (f : GrammarFault) → Right stop (Said 64 state) o ws → finish o ≡ Err f → Refusal-of f
   refused-of (Ok x) f r e = refused-lone f (x .0) (r .0) (x .1) (r .1) (r .2) e

@@ -56,7 +56,7 @@ run-right len p n h = and-from (eqb p p) (leb (p + n) len) (eq-eqb p p refl) (le
 
 module _ (ns : List Node) (ts : List Term) (alts : List ℕ) where
   node-right : (i t a : ℕ) (l : Line) (tp tq : List Term) (aps aq : List ℕ) → ts ≡ tp ++ (terms-in l ++ tq) → length tp ≡ t
-    → alts ≡ aps ++ (alternatives-in l ++ aq) → length aps ≡ a → Line-ok ns i l → node-ok ns ts alts 1 i t a (node t a l) ≡ true
+      → alts ≡ aps ++ (alternatives-in l ++ aq) → length aps ≡ a → Line-ok ns i l → node-ok ns ts alts 1 i t a (node t a l) ≡ true
   node-right i t a (constant state true) tp tq aps aq et ht ea ha ok = refl
   node-right i t a (constant state false) tp tq aps aq et ht ea ha ok = refl
   node-right i t a (constant dist true) tp tq aps aq et ht ea ha ok = refl
@@ -68,14 +68,14 @@ module _ (ns : List Node) (ts : List Term) (alts : List ℕ) where
   node-right i t a (step x ms hs) tp tq aps aq et ht ea ha ok =
       let two = length-append ms hs in
       and-from _ _ (le-leb x 31 (ok .0))
-        (and-from _ _ (run-right (length alts) a (length ms) (run-fits alts aps (ms ++ hs) aq a (length ms) ea ha (omega arith)))
-          (and-from _ _ (run-right (length alts) (a + length ms) (length hs)
-              (let f = run-fits alts aps (ms ++ hs) aq a (length (ms ++ hs)) ea ha (omega arith) in omega arith))
-            (ap (λ l. all-dist ns i l) (part-at alts aps (ms ++ hs) aq a (length ms + length hs) ea ha two) ∙ ok .1)))
+      (and-from _ _ (run-right (length alts) a (length ms) (run-fits alts aps (ms ++ hs) aq a (length ms) ea ha (omega arith)))
+      (and-from _ _ (run-right (length alts) (a + length ms) (length hs)
+      (let f = run-fits alts aps (ms ++ hs) aq a (length (ms ++ hs)) ea ha (omega arith) in omega arith))
+      (ap (λ l. all-dist ns i l) (part-at alts aps (ms ++ hs) aq a (length ms + length hs) ea ha two) ∙ ok .1)))
   node-right i t a (sum x ks) tp tq aps aq et ht ea ha ok =
       and-from _ _ (le-leb x 1000 (ok .0))
-        (and-from _ _ (run-right (length ts) t (length ks) (run-fits ts tp ks tq t (length ks) et ht (omega arith)))
-          (ap (λ l. terms-ok ns i 1000 l) (part-at ts tp ks tq t (length ks) et ht refl) ∙ ok .1))
+      (and-from _ _ (run-right (length ts) t (length ks) (run-fits ts tp ks tq t (length ks) et ht (omega arith)))
+      (ap (λ l. terms-ok ns i 1000 l) (part-at ts tp ks tq t (length ks) et ht refl) ∙ ok .1))
 
   terms-counted : (t a : ℕ) (l : Line) → terms-of (node t a l) ≡ length (terms-in l)
   terms-counted t a (constant state true) = refl
@@ -103,20 +103,20 @@ module _ (ns : List Node) (ts : List Term) (alts : List ℕ) where
 
   -- lines that may stand are accepted, from any of them on
   walk-right : (ls : List Line) (i t a : ℕ) (tp : List Term) (aps : List ℕ) → ts ≡ tp ++ term-table ls → length tp ≡ t
-    → alts ≡ aps ++ alternative-table ls → length aps ≡ a → All-ok ns i ls → walk ns ts alts 1 i t a (node-table t a ls) ≡ true
+      → alts ≡ aps ++ alternative-table ls → length aps ≡ a → All-ok ns i ls → walk ns ts alts 1 i t a (node-table t a ls) ≡ true
   walk-right [] i t a tp aps et ht ea ha ok =
       and-from _ _ (eq-eqb t (length ts) (sym ht ∙ sym (ap length (et ∙ append-nil tp)))) (eq-eqb a (length alts) (sym ha ∙ sym (ap length (ea ∙ append-nil aps))))
   walk-right (l ∷ ls) i t a tp aps et ht ea ha ok =
       let m = t + length (terms-in l) in
       let b = a + length (alternatives-in l) in
       let later = walk-right ls (i + 1) m b (tp ++ terms-in l) (aps ++ alternatives-in l)
-        (et ∙ sym (append-assoc tp (terms-in l) (term-table ls))) (length-append tp (terms-in l) ∙ ap (λ n. n + length (terms-in l)) ht)
-        (ea ∙ sym (append-assoc aps (alternatives-in l) (alternative-table ls))) (length-append aps (alternatives-in l) ∙ ap (λ n. n + length (alternatives-in l)) ha)
-        (ok .1) in
+      (et ∙ sym (append-assoc tp (terms-in l) (term-table ls))) (length-append tp (terms-in l) ∙ ap (λ n. n + length (terms-in l)) ht)
+      (ea ∙ sym (append-assoc aps (alternatives-in l) (alternative-table ls))) (length-append aps (alternatives-in l) ∙ ap (λ n. n + length (alternatives-in l)) ha)
+      (ok .1) in
       and-from _ _ (node-right i t a l tp (term-table ls) aps (alternative-table ls) et ht ea ha (ok .0))
-        (ap (λ n. walk ns ts alts 1 (i + 1) (t + n) (a + alternatives-of (node t a l)) (node-table m b ls)) (terms-counted t a l)
-          ∙ ap (λ n. walk ns ts alts 1 (i + 1) m (a + n) (node-table m b ls)) (alternatives-counted t a l)
-          ∙ later)
+      (ap (λ n. walk ns ts alts 1 (i + 1) (t + n) (a + alternatives-of (node t a l)) (node-table m b ls)) (terms-counted t a l)
+      ∙ ap (λ n. walk ns ts alts 1 (i + 1) m (a + n) (node-table m b ls)) (alternatives-counted t a l)
+      ∙ later)
 
 -- the sort of a node is that of its line
 first-has : (t a : ℕ) (l : Line) (ls : List Line) → Has (node-table t a (l ∷ ls)) (sort l) 0
@@ -145,9 +145,13 @@ mutual
   lay-length : (x : Tree) (σ : Sort) (n : ℕ) → length (lay σ n x) ≡ below x + 1
   lay-length (leaf b) σ n = refl
   lay-length (conj x y) σ n =
-      omega (arith, length-append (lay σ n x) (lay σ (n + below x + 1) y ++ (both σ (n + below x) (n + below x + 1 + below y) ∷ []))
-        , length-append (lay σ (n + below x + 1) y) (both σ (n + below x) (n + below x + 1 + below y) ∷ [])
-        , lay-length x σ n, lay-length y σ (n + below x + 1))
+      omega (
+        arith,
+        length-append (lay σ n x) (lay σ (n + below x + 1) y ++ (both σ (n + below x) (n + below x + 1 + below y) ∷ [])),
+        length-append (lay σ (n + below x + 1) y) (both σ (n + below x) (n + below x + 1 + below y) ∷ []),
+        lay-length x σ n,
+        lay-length y σ (n + below x + 1),
+      )
   lay-length (neg x) σ n = omega (arith, length-append (lay σ n x) (non σ (n + below x) ∷ []), lay-length x σ n)
   lay-length (dia a d) σ n = omega (arith, length-append (lay dist n d) (step a ((n + below d) ∷ []) [] ∷ []), lay-length d dist n)
   lay-length (here d) σ n = omega (arith, length-append (lay dist n d) (step 0 [] ((n + below d) ∷ []) ∷ []), lay-length d dist n)
@@ -168,13 +172,13 @@ record Last (σ : Sort) (n : ℕ) (x : Tree) : Type 0 where
 
 last : (x : Tree) (σ : Sort) (n : ℕ) → Of-sort σ x → Last σ n x
 last (leaf b) σ n h = record { others = []; own = constant σ b; split = refl; sorted = refl; many = refl }
-last (conj x y) σ n h = record
-  { others = lay σ n x ++ lay σ (n + below x + 1) y
-  ; own = both σ (n + below x) (n + below x + 1 + below y)
-  ; split = sym (append-assoc (lay σ n x) (lay σ (n + below x + 1) y) (both σ (n + below x) (n + below x + 1 + below y) ∷ []))
-  ; sorted = refl
-  ; many = omega (arith, length-append (lay σ n x) (lay σ (n + below x + 1) y), lay-length x σ n, lay-length y σ (n + below x + 1))
-  }
+last (conj x y) σ n h = record {
+  others = lay σ n x ++ lay σ (n + below x + 1) y;
+  own = both σ (n + below x) (n + below x + 1 + below y);
+  split = sym (append-assoc (lay σ n x) (lay σ (n + below x + 1) y) (both σ (n + below x) (n + below x + 1 + below y) ∷ []));
+  sorted = refl;
+  many = omega (arith, length-append (lay σ n x) (lay σ (n + below x + 1) y), lay-length x σ n, lay-length y σ (n + below x + 1));
+}
 last (neg x) σ n h = record { others = lay σ n x; own = non σ (n + below x); split = refl; sorted = refl; many = lay-length x σ n }
 last (dia a d) state n h = record { others = lay dist n d; own = step a ((n + below d) ∷ []) []; split = refl; sorted = refl; many = lay-length d dist n }
 last (dia a d) dist n h = absurd h
@@ -202,38 +206,38 @@ module _ (all : List Line) where
   at-front n ks ls h = record { pre = h .pre; post = ls ++ h .post; split = h .split ∙ ap (λ l. h .pre ++ l) (append-assoc ks ls (h .post)); count = h .count }
 
   at-back : (n m : ℕ) (ks ls : List Line) → m ≡ n + length ks → At n (ks ++ ls) → At m ls
-  at-back n m ks ls e h = record
-    { pre = h .pre ++ ks
-    ; post = h .post
-    ; split = h .split ∙ ap (λ l. h .pre ++ l) (append-assoc ks ls (h .post)) ∙ sym (append-assoc (h .pre) ks (ls ++ h .post))
-    ; count = let c = h .count in omega (arith, length-append (h .pre) ks)
-    }
+  at-back n m ks ls e h = record {
+    pre = h .pre ++ ks;
+    post = h .post;
+    split = h .split ∙ ap (λ l. h .pre ++ l) (append-assoc ks ls (h .post)) ∙ sym (append-assoc (h .pre) ks (ls ++ h .post));
+    count = let c = h .count in omega (arith, length-append (h .pre) ks);
+  }
 
   at-has : (n : ℕ) (l : Line) → At n (l ∷ []) → Has nodes (sort l) n
   at-has n l h =
       subst (λ ls. Has (node-table 0 0 ls) (sort l) n) (sym (h .split))
-        (subst (λ m. Has (node-table 0 0 (h .pre ++ (l ∷ h .post))) (sort l) m) (h .count) (line-has (h .pre) 0 0 l (h .post)))
+      (subst (λ m. Has (node-table 0 0 (h .pre ++ (l ∷ h .post))) (sort l) m) (h .count) (line-has (h .pre) 0 0 l (h .post)))
 
   -- the node of a tree
   own-has : (x : Tree) (σ : Sort) (n : ℕ) → Of-sort σ x → At n (lay σ n x) → Has nodes σ (n + below x)
   own-has x σ n s h =
       let l = last x σ n s in
       subst (λ τ. Has nodes τ (n + below x)) (l .sorted)
-        (at-has (n + below x) (l .own)
-          (at-back n (n + below x) (l .others) (l .own ∷ []) (ap (λ m. n + m) (sym (l .many))) (subst (λ ls. At n ls) (l .split) h)))
+      (at-has (n + below x) (l .own)
+      (at-back n (n + below x) (l .others) (l .own ∷ []) (ap (λ m. n + m) (sym (l .many))) (subst (λ ls. At n ls) (l .split) h)))
 
   own-before : (x : Tree) (σ : Sort) (n i : ℕ) → Of-sort σ x → At n (lay σ n x) → n + below x < i → before nodes σ i (n + below x) ≡ true
   own-before x σ n i s h k = before-from nodes σ i (n + below x) k (own-has x σ n s h)
 
   terms-right : (ks : Products) (n i left : ℕ) → Of-products ks → In-ranges ks → At n (lay-products n ks) → n + below-products ks ≤ i → coefficients ks ≤ left
-    → terms-ok nodes i left (terms n ks) ≡ true
+      → terms-ok nodes i left (terms n ks) ≡ true
   terms-right none n i left s r h k c = refl
   terms-right (product e x ks) n i left s r h k c =
       and-from _ _
-        (and-from _ _ (le-leb 1 e (r .0)) (and-from _ _ (le-leb e left (omega arith))
-          (own-before x state n i (s .0) (at-front n (lay state n x) (lay-products (n + below x + 1) ks) h) (omega arith))))
-        (terms-right ks (n + below x + 1) i (left - e) (s .1) (r .2)
-          (at-back n (n + below x + 1) (lay state n x) (lay-products (n + below x + 1) ks) (omega (arith, lay-length x state n)) h) (omega arith) (omega arith))
+      (and-from _ _ (le-leb 1 e (r .0)) (and-from _ _ (le-leb e left (omega arith))
+      (own-before x state n i (s .0) (at-front n (lay state n x) (lay-products (n + below x + 1) ks) h) (omega arith))))
+      (terms-right ks (n + below x + 1) i (left - e) (s .1) (r .2)
+      (at-back n (n + below x + 1) (lay state n x) (lay-products (n + below x + 1) ks) (omega (arith, lay-length x state n)) h) (omega arith) (omega arith))
 
   mutual
     lay-right : (x : Tree) (σ : Sort) (n : ℕ) → Of-sort σ x → In-range x → At n (lay σ n x) → All-ok nodes n (lay σ n x)
@@ -246,8 +250,8 @@ module _ (all : List Line) where
         let hy = at-front m (lay σ m y) (own ∷ []) hr in
         let i = m + below y + 1 in
         all-append nodes n m (lay σ n x) (lay σ m y ++ (own ∷ [])) (omega (arith, lay-length x σ n)) (lay-right x σ n (s .0) (r .0) hx)
-          (all-append nodes m i (lay σ m y) (own ∷ []) (omega (arith, lay-length y σ m)) (lay-right y σ m (s .1) (r .1) hy)
-            ((own-before x σ n i (s .0) hx (omega arith), own-before y σ m i (s .1) hy (omega arith)), tt))
+        (all-append nodes m i (lay σ m y) (own ∷ []) (omega (arith, lay-length y σ m)) (lay-right y σ m (s .1) (r .1) hy)
+        ((own-before x σ n i (s .0) hx (omega arith), own-before y σ m i (s .1) hy (omega arith)), tt))
     lay-right (neg x) σ n s r h =
         let own = non σ (n + below x) in
         let hx = at-front n (lay σ n x) (own ∷ []) h in
@@ -258,14 +262,14 @@ module _ (all : List Line) where
         let hx = at-front n (lay dist n d) (own ∷ []) h in
         let i = n + below d + 1 in
         all-append nodes n i (lay dist n d) (own ∷ []) (omega (arith, lay-length d dist n)) (lay-right d dist n s (r .1) hx)
-          ((r .0, and-from _ _ (own-before d dist n i s hx (omega arith)) refl), tt)
+        ((r .0, and-from _ _ (own-before d dist n i s hx (omega arith)) refl), tt)
     lay-right (dia a d) dist n s r h = absurd s
     lay-right (here d) state n s r h =
         let own = step 0 [] ((n + below d) ∷ []) in
         let hx = at-front n (lay dist n d) (own ∷ []) h in
         let i = n + below d + 1 in
         all-append nodes n i (lay dist n d) (own ∷ []) (omega (arith, lay-length d dist n)) (lay-right d dist n s r hx)
-          ((omega arith, and-from _ _ (own-before d dist n i s hx (omega arith)) refl), tt)
+        ((omega arith, and-from _ _ (own-before d dist n i s hx (omega arith)) refl), tt)
     lay-right (here d) dist n s r h = absurd s
     lay-right (at-least ks t) state n s r h = absurd s
     lay-right (at-least ks t) dist n s r h =
@@ -273,21 +277,21 @@ module _ (all : List Line) where
         let hk = at-front n (lay-products n ks) (own ∷ []) h in
         let i = n + below-products ks in
         all-append nodes n i (lay-products n ks) (own ∷ []) (omega (arith, lay-products-length ks n)) (lay-products-right ks n s (r .0) hk)
-          ((r .3, terms-right ks n i 1000 s (r .0) hk (omega arith) (r .2)), tt)
+        ((r .3, terms-right ks n i 1000 s (r .0) hk (omega arith) (r .2)), tt)
 
     lay-products-right : (ks : Products) (n : ℕ) → Of-products ks → In-ranges ks → At n (lay-products n ks) → All-ok nodes n (lay-products n ks)
     lay-products-right none n s r h = tt
     lay-products-right (product c x ks) n s r h =
         let m = n + below x + 1 in
         all-append nodes n m (lay state n x) (lay-products m ks) (omega (arith, lay-length x state n))
-          (lay-right x state n (s .0) (r .1) (at-front n (lay state n x) (lay-products m ks) h))
-          (lay-products-right ks m (s .1) (r .2) (at-back n m (lay state n x) (lay-products m ks) (omega (arith, lay-length x state n)) h))
+        (lay-right x state n (s .0) (r .1) (at-front n (lay state n x) (lay-products m ks) h))
+        (lay-products-right ks m (s .1) (r .2) (at-back n m (lay state n x) (lay-products m ks) (omega (arith, lay-length x state n)) h))
 
 pub laid-stands : (t : Tree) → Allowed t
-  → stands (node-table 0 0 (lay state 0 t)) (term-table (lay state 0 t)) (alternative-table (lay state 0 t)) (below t) 1 ≡ true
+    → stands (node-table 0 0 (lay state 0 t)) (term-table (lay state 0 t)) (alternative-table (lay state 0 t)) (below t) 1 ≡ true
 laid-stands t a =
     let ls = lay state 0 t in
     let here-all : At ls 0 ls = record { pre = []; post = []; split = sym (append-nil ls); count = refl } in
     and-from _ _
-      (walk-right (node-table 0 0 ls) (term-table ls) (alternative-table ls) ls 0 0 0 [] [] refl refl refl refl (lay-right ls t state 0 (a .sorted) (a .ranged) here-all))
-      (subst (λ n. isState (node-table 0 0 ls) n ≡ true) (zero-add (below t)) (own-has ls t state 0 (a .sorted) here-all))
+    (walk-right (node-table 0 0 ls) (term-table ls) (alternative-table ls) ls 0 0 0 [] [] refl refl refl refl (lay-right ls t state 0 (a .sorted) (a .ranged) here-all))
+    (subst (λ n. isState (node-table 0 0 ls) n ≡ true) (zero-add (below t)) (own-has ls t state 0 (a .sorted) here-all))

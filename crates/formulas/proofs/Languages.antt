@@ -44,11 +44,11 @@ pub number-shape : (n : ℕ) (o v : Toks) → o ≡ Some (Numeral n) ∷ v → N
 number-shape n o v e = subst (λ k. Number-shape n k v) (sym e) (refl, refl)
 
 pub counted-proper : (low high : ℕ) → Proper (Counted low high)
-counted-proper low high = record
-  { some = (0, λ v. (Some (Numeral 0) ∷ v, (tt, refl)))
-  ; full = λ b v h. number-shape b [] v (h .1)
-  ; known = λ b u v h. number-shape b (None ∷ u) v (h .1)
-  }
+counted-proper low high = record {
+  some = (0, λ v. (Some (Numeral 0) ∷ v, (tt, refl)));
+  full = λ b v h. number-shape b [] v (h .1);
+  known = λ b u v h. number-shape b (None ∷ u) v (h .1);
+}
 
 pub counted-clear : (low high : ℕ) → Clear (Counted low high)
 counted-clear low high w w′ a a′ u v v′ h h′ =
@@ -67,11 +67,11 @@ pub record Said (room : ℕ) (σ : Sort) (w : Bool) (b : Tree) (u v : Toks) : Ty
   pub spelled : u ≡ write b v
 
 pub said-proper : (room : ℕ) (σ : Sort) → Proper (Said room σ)
-said-proper room σ = record
-  { some = (leaf true, λ v. (Some True ∷ v, record { sorted = tt; within = tt; spelled = refl }))
-  ; full = λ b v h. shape b [] v (h .spelled)
-  ; known = λ b u v h. shape b (None ∷ u) v (h .spelled)
-  }
+said-proper room σ = record {
+  some = (leaf true, λ v. (Some True ∷ v, record { sorted = tt; within = tt; spelled = refl }));
+  full = λ b v h. shape b [] v (h .spelled);
+  known = λ b u v h. shape b (None ∷ u) v (h .spelled);
+}
 
 pub said-clear : (room : ℕ) (σ : Sort) → Clear (Said room σ)
 said-clear room σ w w′ a a′ u v v′ h h′ = told a a′ v v′ (sym (h .spelled) ∙ h′ .spelled)
@@ -81,11 +81,11 @@ abbrev pub Body : ℕ → Sort → Lang Tree
 Body room σ w b u v = Said (suc room) σ w b (Some Open ∷ u) v
 
 pub body-proper : (room : ℕ) (σ : Sort) → Proper (Body room σ)
-body-proper room σ = record
-  { some = (neg (leaf true), λ v. (Some Not ∷ Some True ∷ Some Close ∷ v, record { sorted = tt; within = tt; spelled = refl }))
-  ; full = λ b v h. shape b (Some Open ∷ []) v (h .spelled)
-  ; known = λ b u v h. shape b (Some Open ∷ None ∷ u) v (h .spelled)
-  }
+body-proper room σ = record {
+  some = (neg (leaf true), λ v. (Some Not ∷ Some True ∷ Some Close ∷ v, record { sorted = tt; within = tt; spelled = refl }));
+  full = λ b v h. shape b (Some Open ∷ []) v (h .spelled);
+  known = λ b u v h. shape b (Some Open ∷ None ∷ u) v (h .spelled);
+}
 
 no-room : (b : Tree) (u v : Toks) → depth b ≤ 0 → Some Open ∷ u ≡ write b v → ⊥
 no-room (leaf true) u v h e = let z : _≡_ {A = ℕ} 0 1 = cc in omega arith
@@ -113,11 +113,11 @@ pub record Summed (room : ℕ) (w : Bool) (ks : Products) (u v : Toks) : Type 0 
   pub spelled : u ≡ write-sum ks v
 
 pub summed-proper : (room : ℕ) → Proper (Summed room)
-summed-proper room = record
-  { some = (none, λ v. (Some (Numeral 0) ∷ v, record { sorted = tt; within = tt; spelled = refl }))
-  ; full = λ b v h. sum-shape b [] v (h .spelled)
-  ; known = λ b u v h. sum-shape b (None ∷ u) v (h .spelled)
-  }
+summed-proper room = record {
+  some = (none, λ v. (Some (Numeral 0) ∷ v, record { sorted = tt; within = tt; spelled = refl }));
+  full = λ b v h. sum-shape b [] v (h .spelled);
+  known = λ b u v h. sum-shape b (None ∷ u) v (h .spelled);
+}
 
 pub summed-clear : (room : ℕ) → Clear (Summed room)
 summed-clear room w w′ a a′ u v v′ h h′ = sum-told a a′ v v′ (sym (h .spelled) ∙ h′ .spelled)
@@ -125,13 +125,12 @@ summed-clear room w w′ a a′ u v v′ h h′ = sum-told a a′ v v′ (sym (h
 abbrev pub Sum-body : ℕ → Lang Products
 Sum-body room w ks u v = Summed (suc room) w ks (Some Open ∷ u) v
 
-
 pub sum-body-proper : (room : ℕ) → Proper (Sum-body room)
-sum-body-proper room = record
-  { some = (product 0 (leaf true) none, λ v. (Some Times ∷ Some (Numeral 0) ∷ Some Open ∷ Some Prob ∷ Some True ∷ Some Close ∷ Some Close ∷ v, record { sorted = (tt, tt); within = tt; spelled = refl }))
-  ; full = λ b v h. sum-shape b (Some Open ∷ []) v (h .spelled)
-  ; known = λ b u v h. sum-shape b (Some Open ∷ None ∷ u) v (h .spelled)
-  }
+sum-body-proper room = record {
+  some = (product 0 (leaf true) none, λ v. (Some Times ∷ Some (Numeral 0) ∷ Some Open ∷ Some Prob ∷ Some True ∷ Some Close ∷ Some Close ∷ v, record { sorted = (tt, tt); within = tt; spelled = refl }));
+  full = λ b v h. sum-shape b (Some Open ∷ []) v (h .spelled);
+  known = λ b u v h. sum-shape b (Some Open ∷ None ∷ u) v (h .spelled);
+}
 
 pub summed-opens : (room : ℕ) → Begins (Summed room) (Some Open ∷ [])
 summed-opens room = (product 0 (leaf true) none, λ v. (Some Times ∷ Some (Numeral 0) ∷ Some Open ∷ Some Prob ∷ Some True ∷ Some Close ∷ Some Close ∷ v, record { sorted = (tt, tt); within = tt; spelled = refl }))
@@ -155,11 +154,11 @@ pub record Prob-said (room : ℕ) (w : Bool) (s : Tree) (u v : Toks) : Type 0 wh
   pub spelled : u ≡ Some Open ∷ Some Prob ∷ write s (Some Close ∷ v)
 
 pub prob-proper : (room : ℕ) → Proper (Prob-said room)
-prob-proper room = record
-  { some = (leaf true, λ v. (Some Open ∷ Some Prob ∷ Some True ∷ Some Close ∷ v, record { sorted = tt; within = tt; spelled = refl }))
-  ; full = λ b v h. let e = h .spelled in let z : _≡_ {A = ℕ} 0 1 = cc in omega arith
-  ; known = λ b u v h. let e = h .spelled in let z : _≡_ {A = ℕ} 0 1 = cc in omega arith
-  }
+prob-proper room = record {
+  some = (leaf true, λ v. (Some Open ∷ Some Prob ∷ Some True ∷ Some Close ∷ v, record { sorted = tt; within = tt; spelled = refl }));
+  full = λ b v h. let e = h .spelled in let z : _≡_ {A = ℕ} 0 1 = cc in omega arith;
+  known = λ b u v h. let e = h .spelled in let z : _≡_ {A = ℕ} 0 1 = cc in omega arith;
+}
 
 pub prob-opens : (room : ℕ) → Begins (Prob-said room) (Some Open ∷ [])
 prob-opens room = (leaf true, λ v. (Some Prob ∷ Some True ∷ Some Close ∷ v, record { sorted = tt; within = tt; spelled = refl }))
@@ -206,18 +205,21 @@ some-several : (more left room n : ℕ) → more ≤ 6 + n → (v : Toks) → Se
 some-several more left room n h v = record { sorted = some-sorted n; enough = rw (some-count n) h; within = tt; spelled = refl }
 
 pub several-proper : (more left room : ℕ) → Proper (Several more left room)
-several-proper more left room = record
-  { some = (some-products more, λ v. (write-products (some-products more) (Some Close ∷ v), some-several more left room more (omega arith) v))
-  ; full = λ b v h. products-shape b [] v (h .spelled)
-  ; known = λ b u v h. products-shape b (None ∷ u) v (h .spelled)
-  }
+several-proper more left room = record {
+  some = (some-products more, λ v. (write-products (some-products more) (Some Close ∷ v), some-several more left room more (omega arith) v));
+  full = λ b v h. products-shape b [] v (h .spelled);
+  known = λ b u v h. products-shape b (None ∷ u) v (h .spelled);
+}
 
 pub several-opens : (more left room : ℕ) → Begins (Several more left room) (Some Open ∷ [])
 unfolding some-products
-several-opens more left room =
-    ( some-products (suc more)
-    , λ v. (Some Times ∷ Some (Numeral 0) ∷ Some Open ∷ Some Prob ∷ Some True ∷ Some Close ∷ Some Close ∷ write-products (some-products more) (Some Close ∷ v)
-           , some-several more left room (suc more) (omega arith) v) )
+several-opens more left room = (
+  some-products (suc more),
+  λ v. (
+    Some Times ∷ Some (Numeral 0) ∷ Some Open ∷ Some Prob ∷ Some True ∷ Some Close ∷ Some Close ∷ write-products (some-products more) (Some Close ∷ v),
+    some-several more left room (suc more) (omega arith) v,
+  ),
+)
 
 pub several-clear : (more left room : ℕ) → Clear (Several more left room)
 several-clear more left room w w′ a a′ u v v′ h h′ = products-told a a′ v v′ (sym (h .spelled) ∙ h′ .spelled)

@@ -60,7 +60,7 @@ Clear {A} L = (w w′ : Bool) (a a′ : A) (u v v′ : Toks) → L w a u v → L
 
 module _ {A B : Type 0} (stop : ℕ) (L : Lang A) (M : Lang B) where
   cause-behind : (p u : Toks) (begins : (k : Toks) → Begins L k → Begins M (p ++ k)) (starts : (w : Bool) (k : Toks) → Starts M w (p ++ k) → Starts L w k)
-    (back : List Item) (f : GrammarFault) → Cause stop L u back f → Cause stop M (p ++ u) back f
+      (back : List Item) (f : GrammarFault) → Cause stop L u back f → Cause stop M (p ++ u) back f
   cause-behind p u begins starts [] f c = (c .0, λ s. c .1 (starts false u s))
   cause-behind p u begins starts (i ∷ is) (Word g) c = (c .0, c .1, λ r s. c .2 r (starts false _ (rw append-assoc at s)))
   cause-behind p u begins starts (i ∷ is) (Misplaced q) c = (c .0, c .1, λ r s. c .2 r (starts false _ (rw append-assoc at s)))
@@ -71,25 +71,25 @@ module _ {A B : Type 0} (stop : ℕ) (L : Lang A) (M : Lang B) where
 
   -- a fault in one language is a fault in another, behind words
   pub refused-behind : (pre ws : List Item) (f : GrammarFault)
-    → ((k : Toks) → Begins L k → Begins M (toks pre ++ k)) → ((w : Bool) (k : Toks) → Starts M w (toks pre ++ k) → Starts L w k)
-    → Refused stop L ws f → Refused stop M (pre ++ ws) f
+      → ((k : Toks) → Begins L k → Begins M (toks pre ++ k)) → ((w : Bool) (k : Toks) → Starts M w (toks pre ++ k) → Starts L w k)
+      → Refused stop L ws f → Refused stop M (pre ++ ws) f
   refused-behind pre ws f begins starts r =
       let front = r .0 in
       let whole = subst (λ u. Begins M u × Cause stop M u (r .1) f) (sym (map-append (λ i. i .1) pre front))
-        (begins (toks front) (r .3), cause-behind (toks pre) (toks front) begins starts (r .1) f (r .4)) in
+      (begins (toks front) (r .3), cause-behind (toks pre) (toks front) begins starts (r .1) f (r .4)) in
       (pre ++ front, r .1, ap (λ l. pre ++ l) (r .2) ∙ sym (append-assoc pre front (r .1)), whole .0, whole .1)
 
 -- a language is what is left of another behind words
 pub right-behind : {A : Type 0} (stop : ℕ) (L M : Lang A) (pre ws : List Item) (o : Out A)
-  → ((w : Bool) (b : A) (u v : Toks) → L w b u v → M w b (toks pre ++ u) v)
-  → ((w : Bool) (b : A) (u v : Toks) → M w b (toks pre ++ u) v → L w b u v)
-  → Right stop L o ws → Right stop M o (pre ++ ws)
+    → ((w : Bool) (b : A) (u v : Toks) → L w b u v → M w b (toks pre ++ u) v)
+    → ((w : Bool) (b : A) (u v : Toks) → M w b (toks pre ++ u) v → L w b u v)
+    → Right stop L o ws → Right stop M o (pre ++ ws)
 right-behind stop L M pre ws (Ok x) to from r =
     (pre ++ r .0, ap (λ l. pre ++ l) (r .1) ∙ sym (append-assoc pre (r .0) (x .1)), λ w v. rw toks-append (to w (x .0) _ v (r .2 w v)))
 right-behind stop L M pre ws (Err f) to from r =
     refused-behind stop L M pre ws f
-      (λ k g. (g .0, λ v. (g .1 v .0, rw append-assoc (to false (g .0) _ v (g .1 v .1)))))
-      (λ w k s. (s .0, s .1, from w (s .0) k (s .1) (s .2))) r
+    (λ k g. (g .0, λ v. (g .1 v .0, rw append-assoc (to false (g .0) _ v (g .1 v .1)))))
+    (λ w k s. (s .0, s .1, from w (s .0) k (s .1) (s .2))) r
 
 -- a value, and then another behind it
 abbrev pub Seq : {A B : Type 0} → Lang A → (A → Lang B) → Lang B
@@ -107,29 +107,30 @@ seq-clear L M l m w w′ b b′ u v v′ h h′ =
 
 module _ {A B : Type 0} (stop : ℕ) (L : Lang A) (M : A → Lang B) (clear : Clear L) where
   seq-rest : (a : A) (front rest : List Item) (o : Out B) → ((w : Bool) (v : Toks) → L w a (toks front ++ v) v)
-    → Right stop (M a) o rest → Right stop (Seq L M) o (front ++ rest)
-  seq-rest a front rest (Ok y) said r =
-      ( front ++ r .0
-      , ap (λ l. front ++ l) (r .1) ∙ sym (append-assoc front (r .0) (y .1))
-      , λ w v. (a, toks (r .0) ++ v, rw toks-append (said w (toks (r .0) ++ v)), r .2 w v) )
+      → Right stop (M a) o rest → Right stop (Seq L M) o (front ++ rest)
+  seq-rest a front rest (Ok y) said r = (
+    front ++ r .0,
+    ap (λ l. front ++ l) (r .1) ∙ sym (append-assoc front (r .0) (y .1)),
+    λ w v. (a, toks (r .0) ++ v, rw toks-append (said w (toks (r .0) ++ v)), r .2 w v),
+  )
   seq-rest a front rest (Err f) said r =
       refused-behind stop (M a) (Seq L M) front rest f
-        (λ k g. (g .0, λ v. (g .1 v .0, (a, k ++ g .1 v .0, rw append-assoc (said false (k ++ g .1 v .0)), g .1 v .1))))
-        (λ w k s.
-          let h = s .2 in
-          let e = clear w w a (h .0) (toks front ++ k) k (h .1) (said w k) (h .2) in
-          (s .0, s .1, subst (λ c. M c w (s .0) k (s .1)) (sym (e .0)) (subst (λ z. M (h .0) w (s .0) z (s .1)) (sym (e .1)) (h .3))))
-        r
+      (λ k g. (g .0, λ v. (g .1 v .0, (a, k ++ g .1 v .0, rw append-assoc (said false (k ++ g .1 v .0)), g .1 v .1))))
+      (λ w k s.
+      let h = s .2 in
+      let e = clear w w a (h .0) (toks front ++ k) k (h .1) (said w k) (h .2) in
+      (s .0, s .1, subst (λ c. M c w (s .0) k (s .1)) (sym (e .0)) (subst (λ z. M (h .0) w (s .0) z (s .1)) (sym (e .1)) (h .3))))
+      r
 
   pub right-then : (o : Out A) (f : A → List Item → Out B) (ws : List Item) → ((a : A) → Begins (M a) []) → Right stop L o ws
-    → ((a : A) (rest : List Item) → Right stop (M a) (f a rest) rest) → Right stop (Seq L M) (then o f) ws
+      → ((a : A) (rest : List Item) → Right stop (M a) (f a rest) rest) → Right stop (Seq L M) (then o f) ws
   right-then (Ok x) f ws some r rs =
       subst (λ l. Right stop (Seq L M) (f (x .0) (x .1)) l) (sym (r .1)) (seq-rest (x .0) (r .0) (x .1) (f (x .0) (x .1)) (r .2) (rs (x .0) (x .1)))
   right-then (Err e) f ws some r rs =
       refused-behind stop L (Seq L M) [] ws e
-        (λ k g. seq-begins L M k g some)
-        (λ w k s. (s .2 .0, s .2 .1, s .2 .2))
-        r
+      (λ k g. seq-begins L M k g some)
+      (λ w k s. (s .2 .0, s .2 .1, s .2 .2))
+      r
 
 -- a value that no word says
 abbrev pub Done : {A : Type 0} → A → Lang A
@@ -159,26 +160,26 @@ pub record Proper {A : Type 0} (L : Lang A) : Type 0 where
 
 module _ {A : Type 0} (stop : ℕ) (L : Lang A) (proper : Proper L) where
   right-lexed : (k : Lexeme → List Item → Out A)
-    → ((p : ℕ) (t : Token) (rest : List Item) → Right stop L (k (record { token = t; place = p }) rest) ((p, Some t) ∷ rest))
-    → (p : ℕ) (o : Option Token) (rest : List Item) → Right stop L (then (lexed p o rest) k) ((p, o) ∷ rest)
+      → ((p : ℕ) (t : Token) (rest : List Item) → Right stop L (k (record { token = t; place = p }) rest) ((p, Some t) ∷ rest))
+      → (p : ℕ) (o : Option Token) (rest : List Item) → Right stop L (then (lexed p o rest) k) ((p, o) ∷ rest)
   right-lexed k each p (Some t) rest = each p t rest
   right-lexed k each p None rest = ([], (p, None) ∷ rest, refl, proper .some, (refl, refl, λ r s. proper .known (s .0) r (s .1) (s .2)))
 
   pub right-next : (k : Lexeme → List Item → Out A)
-    → ((p : ℕ) (t : Token) (rest : List Item) → Right stop L (k (record { token = t; place = p }) rest) ((p, Some t) ∷ rest))
-    → (ws : List Item) → Right stop L (then (next stop ws) k) ws
+      → ((p : ℕ) (t : Token) (rest : List Item) → Right stop L (k (record { token = t; place = p }) rest) ((p, Some t) ∷ rest))
+      → (ws : List Item) → Right stop L (then (next stop ws) k) ws
   right-next k each [] = ([], [], refl, proper .some, (refl, λ s. proper .full (s .0) (s .1) (s .2)))
   right-next k each (i ∷ is) = right-lexed k each (i .0) (i .1) is
 
   pub right-misplaced : (p : ℕ) (t : Token) (rest : List Item) → ((b : A) (u v : Toks) → L false b (Some t ∷ u) v → ⊥)
-    → Right stop L (Err (Misplaced p)) ((p, Some t) ∷ rest)
+      → Right stop L (Err (Misplaced p)) ((p, Some t) ∷ rest)
   right-misplaced p t rest bars = ([], (p, Some t) ∷ rest, refl, proper .some, (refl, (t, refl), λ r s. bars (s .0) r (s .1) (s .2)))
 
   pub right-too-many : (p : ℕ) (rest : List Item) → Begins L (Some Open ∷ []) → ((b : A) (u v : Toks) → L true b (Some Open ∷ u) v → ⊥)
-    → Right stop L (Err (TooMany p)) ((p, Some Open) ∷ rest)
+      → Right stop L (Err (TooMany p)) ((p, Some Open) ∷ rest)
   right-too-many p rest begins bars = ([], (p, Some Open) ∷ rest, refl, proper .some, (refl, refl, begins, λ r s. bars (s .0) r (s .1) (s .2)))
 
   pub right-out-of-range : (p n : ℕ) (rest : List Item) → Begins L (Some (Numeral n) ∷ []) → ((b : A) (u v : Toks) → L true b (Some (Numeral n) ∷ u) v → ⊥)
-    → Right stop L (Err (OutOfRange p)) ((p, Some (Numeral n)) ∷ rest)
+      → Right stop L (Err (OutOfRange p)) ((p, Some (Numeral n)) ∷ rest)
   right-out-of-range p n rest begins bars =
       ([], (p, Some (Numeral n)) ∷ rest, refl, proper .some, (refl, (n, refl), begins, λ r s. bars (s .0) r (s .1) (s .2)))

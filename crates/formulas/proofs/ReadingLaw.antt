@@ -4,10 +4,10 @@ use Rattle.formulas.proofs.Faithful.{spell-told, parsed-refused, reading-sound
 use Rattle.formulas.proofs.LaidOut.{laid-stands}
 
 pub law : Reading-law
-law = record
-  { sound = reading-sound
-  ; complete = reading-complete
-  ; refused = parsed-refused
-  ; unique = spell-told
-  ; stands-laid = laid-stands
-  }
+law = record {
+  sound = reading-sound;
+  complete = reading-complete;
+  refused = parsed-refused;
+  unique = spell-told;
+  stands-laid = laid-stands;
+}

@@ -63,9 +63,9 @@ mutual
   write-spell (here d) v = simp (said-append, write-spell d)
   write-spell (at-least ks t) v =
       ap (λ l. Some Open ∷ Some AtLeast ∷ l)
-        (said-append (summed ks (spell-products ks)) (Numeral t ∷ Close ∷ []) v
-          ∙ summed-write ks (Some (Numeral t) ∷ Some Close ∷ v)
-          ∙ ap (λ l. sum-open ks l) (spell-write-products ks (sum-close ks (Some (Numeral t) ∷ Some Close ∷ v))))
+      (said-append (summed ks (spell-products ks)) (Numeral t ∷ Close ∷ []) v
+      ∙ summed-write ks (Some (Numeral t) ∷ Some Close ∷ v)
+      ∙ ap (λ l. sum-open ks l) (spell-write-products ks (sum-close ks (Some (Numeral t) ∷ Some Close ∷ v))))
 
   pub spell-write-products : (ks : Products) (v : Toks) → map Some (spell-products ks) ++ v ≡ write-products ks v
   spell-write-products none v = refl
@@ -251,7 +251,7 @@ product-told : {c d : ℕ} {s r : Tree} {ks ls : Products} → c ≡ d → s ≡
 product-told m p q = cc
 
 told-products : (ks : Products) → All-told ks → (ls : Products) (v v′ : Toks)
-  → write-products ks (Some Close ∷ v) ≡ write-products ls (Some Close ∷ v′) → (ks ≡ ls) × (v ≡ v′)
+    → write-products ks (Some Close ∷ v) ≡ write-products ls (Some Close ∷ v′) → (ks ≡ ls) × (v ≡ v′)
 told-products none hs ls v v′ e = let h = products-shape ls (Some Close ∷ v) v′ e in (sym (h .0), h .1)
 told-products (product c s ks) hs ls v v′ e =
     let h = products-shape ls (write-products (product c s ks) (Some Close ∷ v)) v′ e in
