@@ -1,12 +1,16 @@
 -- The law of reading holds.
 use Rattle.formulas.specs.Spelling.{Reading-law}
 use Rattle.formulas.proofs.Faithful.{spell-told, parsed-refused, reading-sound, reading-complete}
+use Rattle.formulas.proofs.Bytes.{token-word, word-token, spells-parts}
 use Rattle.formulas.proofs.LaidOut.{laid-stands}
 
 pub law : Reading-law
 law = record {
   sound = reading-sound;
   complete = reading-complete;
+  worded = token-word;
+  wording = word-token;
+  spells-bytes = spells-parts;
   refused = parsed-refused;
   unique = spell-told;
   stands-laid = laid-stands;

@@ -1,22 +1,27 @@
 -- The law of reading: which texts are accepted, and what each refusal of a text means.
 use mathlib.Core.Bool.{Bool, true}
 use mathlib.Core.List.{List, [], _∷_, _++_, map}
+use mathlib.Core.Logic.{_↔_}
 use mathlib.Core.Path.{_≡_}
 use Prim.Native.Nat.{ℕ, _≤_}
+use lib.Chars.{codes}
 use lib.ListN.{length}
 use Rattle.std.specs.declared.option.Option.{Option}
 use Rattle.std.specs.declared.option.Option.the-variants.{Some, None}
 use Rattle.std.specs.declared.result.Result.the-variants.{Ok, Err}
+use Rattle.std.specs.Written.{decimal}
 use Rattle.formulas.specs.declared.fault.GrammarFault.{GrammarFault}
 use Rattle.formulas.specs.declared.fault.GrammarFault.the-variants.{Word, Misplaced, OutOfRange, TooMany}
 use Rattle.formulas.specs.declared.token.Token.{Token}
-use Rattle.formulas.specs.declared.token.Token.the-variants.{Open, Numeral}
+use Rattle.formulas.specs.declared.token.Token.the-variants.{Open, Close, True, False, And, Not, Dia, Here, Prob, AtLeast, Plus, Times, Numeral}
 use Rattle.formulas.specs.Grammar.{Item, items, parse}
 use Rattle.formulas.specs.Layout.{node-table, term-table, alternative-table, fills}
 use Rattle.formulas.specs.Lines.{state}
 use Rattle.formulas.specs.Reading.{Slots, fits, reading}
 use Rattle.formulas.specs.Stands.{stands}
+use Rattle.formulas.specs.Tokens.{tokenOf}
 use Rattle.formulas.specs.Trees.{Tree, spell, Of-sort, In-range, depth, below, lay}
+use Rattle.formulas.specs.Words.{onward, part}
 
 -- words, each by its token if it has one
 abbrev pub tokens-of : List Item → List (Option Token)
@@ -29,6 +34,42 @@ tokens text = tokens-of (items text 0)
 -- the words of a text are those of a tree
 abbrev pub Spells : List ℕ → Tree → Type 0
 Spells text t = tokens text ≡ map Some (spell t)
+
+-- the bytes of a token; of a numeral, its decimal digits
+abbrev pub word : Token → List ℕ
+word Open = codes "("
+word Close = codes ")"
+word True = codes "true"
+word False = codes "false"
+word And = codes "and"
+word Not = codes "not"
+word Dia = codes "dia"
+word Here = codes "here"
+word Prob = codes "prob"
+word AtLeast = codes ">="
+word Plus = codes "+"
+word Times = codes "*"
+word (Numeral n) = decimal n
+
+-- a numeral that keeps its value
+abbrev pub Small : Token → Type 0
+Small Open = Unit {0}
+Small Close = Unit {0}
+Small True = Unit {0}
+Small False = Unit {0}
+Small And = Unit {0}
+Small Not = Unit {0}
+Small Dia = Unit {0}
+Small Here = Unit {0}
+Small Prob = Unit {0}
+Small AtLeast = Unit {0}
+Small Plus = Unit {0}
+Small Times = Unit {0}
+Small (Numeral n) = n ≤ 1073741824
+
+-- the words of a text as parts of it
+abbrev pub parts : List ℕ → List (List ℕ)
+parts text = map (λ w. part text (w .0) (w .1)) (onward text 0)
 
 -- a state term within the limits
 pub record Allowed (t : Tree) : Type 0 where
@@ -74,6 +115,10 @@ pub record Refusal (text : List ℕ) (f : GrammarFault) : Type 0 where
 pub record Reading-law : Type 0 where
   pub sound : (text : List ℕ) (s : Slots) (t : Tree) → reading text s ≡ Ok t → Accepts text s t
   pub complete : (text : List ℕ) (s : Slots) (t : Tree) → Accepts text s t → reading text s ≡ Ok t
+  -- by their bytes
+  pub worded : (t : Token) → Small t → tokenOf (word t) ≡ Some t
+  pub wording : (w : List ℕ) (t : Token) → Small t → tokenOf w ≡ Some t → w ≡ word t
+  pub spells-bytes : (text : List ℕ) (t : Tree) → In-range t → Spells text t ↔ (parts text ≡ map word (spell t))
   pub refused : (text : List ℕ) (f : GrammarFault) → parse text ≡ Err f → Refusal text f
   -- two trees never share a spelling
   pub unique : (x y : Tree) → spell x ≡ spell y → x ≡ y
