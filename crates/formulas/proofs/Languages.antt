@@ -10,7 +10,7 @@ use Rattle.formulas.specs.declared.token.Token.the-variants.{Open, Close, True
 use Rattle.formulas.specs.Lines.{Sort, state, dist}
 use Rattle.formulas.specs.Trees.{Tree, leaf, conj, neg, dia, here, at-least, Products, none, product, Of-sort, Of-products, In-range, In-ranges, count, coefficients, depth, sum-depth, products-depth}
 use Rattle.formulas.proofs.Written.{Toks, write, write-products, write-sum, shape, sum-shape, products-shape, told, products-told, sum-told}
-use Rattle.formulas.proofs.Outcomes.{Lang, Begins, Clear, Proper, Seq, Just, Done}
+use Rattle.formulas.proofs.Outcomes.{Lang, Begins, Clear, Proper, Two}
 
 -- a number from low to high
 abbrev pub In-bounds : ℕ → ℕ → Bool → ℕ → Type 0
@@ -173,7 +173,7 @@ prob-clear room w w′ a a′ u v v′ h h′ =
 
 -- a product behind its `*`
 abbrev pub Factor : ℕ → ℕ → Lang (ℕ × Tree)
-Factor room left = Seq (Counted 1 left) (λ c. Seq (Prob-said room) (λ s. Just Close (c, s)))
+Factor room left = Two (Counted 1 left) (Prob-said room) (λ c s. (c, s))
 
 -- the products left behind a `+`, of which at most more come, and of which enough must come
 abbrev pub Several-within : ℕ → ℕ → ℕ → Bool → Products → Type 0

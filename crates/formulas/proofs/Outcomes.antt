@@ -10,7 +10,7 @@ use Rattle.std.specs.declared.result.Result.the-variants.{Ok, Err}
 use Rattle.formulas.specs.declared.fault.GrammarFault.{GrammarFault}
 use Rattle.formulas.specs.declared.fault.GrammarFault.the-variants.{Word, Misplaced, OutOfRange, TooMany}
 use Rattle.formulas.specs.declared.token.Token.{Token}
-use Rattle.formulas.specs.declared.token.Token.the-variants.{Open, Numeral}
+use Rattle.formulas.specs.declared.token.Token.the-variants.{Open, Close, Numeral}
 use Rattle.formulas.specs.declared.token.Lexeme.{Lexeme}
 use Rattle.formulas.specs.Grammar.{Item, Out, then, lexed, next}
 use Rattle.formulas.proofs.Written.{Toks}
@@ -151,6 +151,22 @@ just-clear t a w w′ b b′ u v v′ h h′ = (h .0 ∙ sym (h′ .0), let e = 
 
 pub just-some : {A : Type 0} (t : Token) (a : A) → Begins (Just t a) []
 just-some t a = (a, λ v. (Some t ∷ v, (refl, refl)))
+
+-- a part and a `)`; two parts and a `)`
+abbrev pub One : {X B : Type 0} → Lang X → (X → B) → Lang B
+One L make = Seq L (λ x. Just Close (make x))
+
+abbrev pub Two : {X Y B : Type 0} → Lang X → Lang Y → (X → Y → B) → Lang B
+Two L M make = Seq L (λ x. One M (make x))
+
+pub one-some : {X B : Type 0} (L : Lang X) (make : X → B) → Begins L [] → Begins (One L make) []
+one-some L make h = seq-begins L (λ x. Just Close (make x)) [] h (λ x. just-some Close (make x))
+
+pub two-some : {X Y B : Type 0} (L : Lang X) (M : Lang Y) (make : X → Y → B) → Begins L [] → Begins M [] → Begins (Two L M make) []
+two-some L M make h k = seq-begins L (λ x. One M (make x)) [] h (λ x. one-some M (make x) k)
+
+pub two-clear : {X Y B : Type 0} (L : Lang X) (M : Lang Y) (make : X → Y → B) → Clear L → Clear M → Clear (Two L M make)
+two-clear L M make h k = seq-clear L (λ x. One M (make x)) h (λ x. seq-clear M (λ y. Just Close (make x y)) k (λ y. just-clear Close (make x y)))
 
 -- what reading the first word asks of a language
 pub record Proper {A : Type 0} (L : Lang A) : Type 0 where
