@@ -24,6 +24,7 @@ use Rattle.formulas.specs.Trees.{Tree, spell, Of-sort, In-range, depth, lay}
 use Rattle.formulas.proofs.Written.{Toks, write, write-spell, told}
 use Rattle.formulas.proofs.Outcomes.{toks, Begins, Starts, Cause, Refused, Right}
 use Rattle.formulas.proofs.Languages.{Said, Within}
+use Rattle.formulas.proofs.ReadTokens.{by-test}
 use Rattle.formulas.proofs.Readers.{readings}
 
 spell-write : (t : Tree) → map Some (spell t) ≡ write t []
@@ -150,7 +151,7 @@ module _ (text : List ℕ) where
   unfolding parse
   parsed-complete t e a = complete-of (length text) (items text 0) _ t reads e a
 
-  pub parsed-refused : (f : GrammarFault) → parse text ≡ Err f → Refusal text f
+  parsed-refused : (f : GrammarFault) → parse text ≡ Err f → Refusal text f
   unfolding parse
   parsed-refused f e =
       let r = refused-of (length text) (items text 0) _ f reads e in
@@ -176,3 +177,27 @@ reading-sound text s t e =
 pub reading-complete : (text : List ℕ) (s : Slots) (t : Tree) → Accepts text s t → reading text s ≡ Ok t
 reading-complete text s t a =
     ap (λ r. placed s r) (parsed-complete text t (a .spells) (a .allowed)) ∙ ap (λ b. cond b (Ok t) (Err Tables)) (a .room)
+
+-- a fault is handed on, and nothing else is called one
+placed-err : (s : Slots) (f : GrammarFault) (r : Result Tree GrammarFault) → placed s r ≡ Err (Text f) → r ≡ Err f
+placed-err s f (Ok x) e =
+    by-test (λ o. o ≡ Err (Text f) → _≡_ {A = Result Tree GrammarFault} (Ok x) (Err f)) (fits (fills (lay state 0 x)) s) (Ok x) (Err Tables) (λ _ k. cc) (λ _ k. cc) e
+placed-err s f (Err g) e = cc
+
+placed-crowded : (s : Slots) (r : Result Tree GrammarFault) → placed s r ≡ Err Tables → (t : Tree) × (r ≡ Ok t) × (fits (fills (lay state 0 t)) s ≡ false)
+placed-crowded s (Ok x) e =
+    by-test (λ o. o ≡ Err Tables → (t : Tree) × (_≡_ {A = Result Tree GrammarFault} (Ok x) (Ok t)) × (fits (fills (lay state 0 t)) s ≡ false))
+      (fits (fills (lay state 0 x)) s) (Ok x) (Err Tables) (λ _ k. never k) (λ h k. (x, refl, h)) e
+  where
+    never : {A : Type 0} → _≡_ {A = Result Tree ReadFault} (Ok x) (Err Tables) → A
+    never k = absurd (let z : _≡_ {A = ℕ} 0 1 = cc in let y : ⊥ = omega arith in y)
+placed-crowded s (Err f) e = absurd (let z : _≡_ {A = ℕ} 0 1 = cc in let y : ⊥ = omega arith in y)
+
+pub reading-refused : (text : List ℕ) (s : Slots) (f : GrammarFault) → reading text s ≡ Err (Text f) → Refusal text f
+reading-refused text s f e = parsed-refused text f (placed-err s f (parse text) e)
+
+pub reading-crowded : (text : List ℕ) (s : Slots) → reading text s ≡ Err Tables → (t : Tree) × Spells text t × Allowed t × (fits (fills (lay state 0 t)) s ≡ false)
+reading-crowded text s e =
+    let r = placed-crowded s (parse text) e in
+    let p = parsed-sound text (r .0) (r .1) in
+    (r .0, p .0, p .1, r .2)

@@ -11,10 +11,11 @@ use Rattle.std.proofs.shelf.Lists.{append-assoc, append-nil, length-append, dro
 use Rattle.std.proofs.shelf.Tests.{and-from, eq-eqb, le-leb, lt-ltb}
 use Rattle.formulas.specs.declared.node.Node.{Node}
 use Rattle.formulas.specs.declared.node.Term.{Term}
-use Rattle.formulas.specs.Layout.{run, terms-in, alternatives-in, node, node-table, term-table, alternative-table}
+use Rattle.formulas.specs.Layout.{run, terms-in, alternatives-in, node, node-table, term-table, alternative-table, fills}
 use Rattle.formulas.specs.Lines.{Sort, state, dist, Line, constant, both, non, step, sum, sort, part}
+use Rattle.formulas.specs.Reading.{Slots, over, laid}
 use Rattle.formulas.specs.Spelling.{Allowed}
-use Rattle.formulas.specs.Stands.{isState, isDist, below-state, below-dist, run-ok, all-dist, terms-ok, step-ok, sum-ok, node-ok, terms-of, alternatives-of, walk, stands}
+use Rattle.formulas.specs.Stands.{isState, isDist, below-state, below-dist, run-ok, all-dist, terms-ok, step-ok, sum-ok, node-ok, terms-of, alternatives-of, walk, stands, formula-in}
 use Rattle.formulas.specs.Trees.{Tree, leaf, conj, neg, dia, here, at-least, Products, none, product, Of-sort, Of-products, In-range, In-ranges, coefficients, below, below-products, terms, lay, lay-products}
 
 -- node j is of the sort
@@ -295,3 +296,31 @@ laid-stands t a =
     and-from _ _
     (walk-right (node-table 0 0 ls) (term-table ls) (alternative-table ls) ls 0 0 0 [] [] refl refl refl refl (lay-right ls t state 0 (a .sorted) (a .ranged) here-all))
     (subst (λ n. isState (node-table 0 0 ls) n ≡ true) (zero-add (below t)) (own-has ls t state 0 (a .sorted) here-all))
+
+-- entries over the front of a table are its front
+over-front : {X : Type 0} (xs old : List X) (n : ℕ) → length xs ≡ n → take n (over xs old) ≡ xs
+over-front xs old n h = take-at xs (drop (length xs) old) n h
+
+over-holds : {X : Type 0} (xs old : List X) (n : ℕ) → length xs ≡ n → leb n (length (over xs old)) ≡ true
+over-holds xs old n h = le-leb n (length (over xs old)) (omega (arith, length-append xs (drop (length xs) old)))
+
+node-table-length : (ls : List Line) (t a : ℕ) → length (node-table t a ls) ≡ length ls
+node-table-length [] t a = refl
+node-table-length (l ∷ ls) t a = ap suc (node-table-length ls (t + length (terms-in l)) (a + length (alternatives-in l)))
+
+pub laid-opens : (s : Slots) (t : Tree) → Allowed t
+  → formula-in (fills (lay state 0 t)) (below t) 1 (laid (lay state 0 t) s .nodes) (laid (lay state 0 t) s .terms) (laid (lay state 0 t) s .alternatives) ≡ true
+laid-opens s t a =
+    let ls = lay state 0 t in
+    let n = node-table-length ls 0 0 in
+    and-from _ _
+      (and-from _ _ (over-holds (node-table 0 0 ls) (s .nodes) (length ls) n)
+        (and-from _ _ (over-holds (term-table ls) (s .terms) (length (term-table ls)) refl)
+          (over-holds (alternative-table ls) (s .alternatives) (length (alternative-table ls)) refl)))
+      (ap (λ k. stands k (take (length (term-table ls)) (over (term-table ls) (s .terms))) (take (length (alternative-table ls)) (over (alternative-table ls) (s .alternatives))) (below t) 1)
+          (over-front (node-table 0 0 ls) (s .nodes) (length ls) n)
+        ∙ ap (λ k. stands (node-table 0 0 ls) k (take (length (alternative-table ls)) (over (alternative-table ls) (s .alternatives))) (below t) 1)
+          (over-front (term-table ls) (s .terms) (length (term-table ls)) refl)
+        ∙ ap (λ k. stands (node-table 0 0 ls) (term-table ls) k (below t) 1)
+          (over-front (alternative-table ls) (s .alternatives) (length (alternative-table ls)) refl)
+        ∙ laid-stands t a)

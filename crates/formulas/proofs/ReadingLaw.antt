@@ -1,8 +1,8 @@
 -- The law of reading holds.
 use Rattle.formulas.specs.Spelling.{Reading-law}
-use Rattle.formulas.proofs.Faithful.{spell-told, parsed-refused, reading-sound, reading-complete}
+use Rattle.formulas.proofs.Faithful.{spell-told, reading-sound, reading-complete, reading-refused, reading-crowded}
 use Rattle.formulas.proofs.Bytes.{token-word, word-token, spells-parts}
-use Rattle.formulas.proofs.LaidOut.{laid-stands}
+use Rattle.formulas.proofs.LaidOut.{laid-stands, laid-opens}
 
 pub law : Reading-law
 law = record {
@@ -11,7 +11,9 @@ law = record {
   worded = token-word;
   wording = word-token;
   spells-bytes = spells-parts;
-  refused = parsed-refused;
+  refused = reading-refused;
+  crowded = reading-crowded;
   unique = spell-told;
   stands-laid = laid-stands;
+  opens = laid-opens;
 }

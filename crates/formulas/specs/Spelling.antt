@@ -1,5 +1,5 @@
 -- The law of reading: which texts are accepted, and what each refusal of a text means.
-use mathlib.Core.Bool.{Bool, true}
+use mathlib.Core.Bool.{Bool, true, false}
 use mathlib.Core.List.{List, [], _∷_, _++_, map}
 use mathlib.Core.Logic.{_↔_}
 use mathlib.Core.Path.{_≡_}
@@ -12,13 +12,14 @@ use Rattle.std.specs.declared.result.Result.the-variants.{Ok, Err}
 use Rattle.std.specs.Written.{decimal}
 use Rattle.formulas.specs.declared.fault.GrammarFault.{GrammarFault}
 use Rattle.formulas.specs.declared.fault.GrammarFault.the-variants.{Word, Misplaced, OutOfRange, TooMany}
+use Rattle.formulas.specs.declared.fault.ReadFault.the-variants.{Text, Tables}
 use Rattle.formulas.specs.declared.token.Token.{Token}
 use Rattle.formulas.specs.declared.token.Token.the-variants.{Open, Close, True, False, And, Not, Dia, Here, Prob, AtLeast, Plus, Times, Numeral}
-use Rattle.formulas.specs.Grammar.{Item, items, parse}
+use Rattle.formulas.specs.Grammar.{Item, items}
 use Rattle.formulas.specs.Layout.{node-table, term-table, alternative-table, fills}
 use Rattle.formulas.specs.Lines.{state}
-use Rattle.formulas.specs.Reading.{Slots, fits, reading}
-use Rattle.formulas.specs.Stands.{stands}
+use Rattle.formulas.specs.Reading.{Slots, fits, reading, laid}
+use Rattle.formulas.specs.Stands.{stands, formula-in}
 use Rattle.formulas.specs.Tokens.{tokenOf}
 use Rattle.formulas.specs.Trees.{Tree, spell, Of-sort, In-range, depth, below, lay}
 use Rattle.formulas.specs.Words.{onward, part}
@@ -119,8 +120,13 @@ pub record Reading-law : Type 0 where
   pub worded : (t : Token) → Small t → tokenOf (word t) ≡ Some t
   pub wording : (w : List ℕ) (t : Token) → Small t → tokenOf w ≡ Some t → w ≡ word t
   pub spells-bytes : (text : List ℕ) (t : Tree) → In-range t → Spells text t ↔ (parts text ≡ map word (spell t))
-  pub refused : (text : List ℕ) (f : GrammarFault) → parse text ≡ Err f → Refusal text f
+  pub refused : (text : List ℕ) (s : Slots) (f : GrammarFault) → reading text s ≡ Err (Text f) → Refusal text f
+  -- the tables are too short for a text only if nothing else is wrong with it
+  pub crowded : (text : List ℕ) (s : Slots) → reading text s ≡ Err Tables
+    → (t : Tree) × Spells text t × Allowed t × (fits (fills (lay state 0 t)) s ≡ false)
   -- two trees never share a spelling
   pub unique : (x y : Tree) → spell x ≡ spell y → x ≡ y
-  -- what is laid out is a formula
+  -- what is laid out is a formula, and so are the tables that hold it, whatever they held before
   pub stands-laid : (t : Tree) → Allowed t → stands (node-table 0 0 (lay state 0 t)) (term-table (lay state 0 t)) (alternative-table (lay state 0 t)) (below t) 1 ≡ true
+  pub opens : (s : Slots) (t : Tree) → Allowed t
+    → formula-in (fills (lay state 0 t)) (below t) 1 (laid (lay state 0 t) s .nodes) (laid (lay state 0 t) s .terms) (laid (lay state 0 t) s .alternatives) ≡ true
