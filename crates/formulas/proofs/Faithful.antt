@@ -1,6 +1,7 @@
 -- What is read is what is spelled, and what is refused is not spelled.
 use mathlib.Core.Bool.{Bool, true, false, cond}
 use mathlib.Core.List.{List, [], _∷_, _++_, map}
+use mathlib.Core.Logic.{_↔_}
 use mathlib.Core.Path.{_≡_, refl, sym, ap, subst, _∙_}
 use Prim.Native.Nat.{ℕ, suc, _≤_}
 use native.Mathlib.Omega.{arith}
@@ -19,10 +20,10 @@ use Rattle.formulas.specs.Grammar.{Item, Out, items, term, stray, lone, finish
 use Rattle.formulas.specs.Layout.{fills}
 use Rattle.formulas.specs.Lines.{Sort, state}
 use Rattle.formulas.specs.Reading.{Slots, fits, placed, reading}
-use Rattle.formulas.specs.Spelling.{tokens, Spells, Allowed, Accepts, Begin-term, Begin-allowed, Wrong, Refusal}
-use Rattle.formulas.specs.Trees.{Tree, spell, Of-sort, In-range, depth, lay}
+use Rattle.formulas.specs.Spelling.{tokens, Spells, Allowed, Accepts, Numbers-fit, Coefficients-fit, Sums-short, Parts-short, Begin-term, Wrong, Refusal}
+use Rattle.formulas.specs.Trees.{Tree, leaf, conj, neg, dia, here, at-least, Products, none, product, spell, Of-sort, In-range, In-ranges, depth, lay}
 use Rattle.formulas.proofs.Written.{Toks, write, write-spell, told}
-use Rattle.formulas.proofs.Outcomes.{toks, Begins, Starts, Cause, Refused, Right}
+use Rattle.formulas.proofs.Outcomes.{Limits, free, numbers, sizes, toks, Begins, Starts, Cause, Refused, Right}
 use Rattle.formulas.proofs.Languages.{Said, Within}
 use Rattle.formulas.proofs.ReadTokens.{by-test}
 use Rattle.formulas.proofs.Readers.{readings}
@@ -33,16 +34,37 @@ spell-write t = sym (append-nil (map Some (spell t))) ∙ write-spell t []
 pub spell-told : (x y : Tree) → spell x ≡ spell y → x ≡ y
 spell-told x y e = told x y [] [] (sym (spell-write x) ∙ ap (λ l. map Some l) e ∙ spell-write y) .0
 
-allowed-within : (t : Tree) → Allowed t → (w : Bool) → Within 64 w t
-allowed-within t a true = (a .ranged, a .shallow)
-allowed-within t a false = tt
+-- the limits of numbers and those of sums are all limits but that of depth
+mutual
+  split-range : (x : Tree) → In-range x ↔ (Numbers-fit x × Sums-short x)
+  split-range (leaf b) = (λ h. (tt, tt), λ h. tt)
+  split-range (conj x y) =
+      let p = split-range x in
+      let q = split-range y in
+      (λ h. let a = p .0 (h .0) in let b = q .0 (h .1) in ((a .0, b .0), (a .1, b .1)), λ h. (p .1 (h .0 .0, h .1 .0), q .1 (h .0 .1, h .1 .1)))
+  split-range (neg x) = split-range x
+  split-range (dia a d) = let p = split-range d in (λ h. let b = p .0 (h .1) in ((h .0, b .0), b .1), λ h. (h .0 .0, p .1 (h .0 .1, h .1)))
+  split-range (here d) = split-range d
+  split-range (at-least ks t) =
+      let p = split-ranges ks in
+      (λ h. let b = p .0 (h .0) in ((b .0, h .2, h .3), (b .1, h .1)), λ h. (p .1 (h .0 .0, h .1 .0), h .1 .1, h .0 .1, h .0 .2))
 
--- an allowed tree is said by its spelling
-allowed-said : (t : Tree) (u : Toks) → Allowed t → map Some (spell t) ≡ u → (w : Bool) → Said 64 state w t u []
-allowed-said t u a e w = record { sorted = a .sorted; within = allowed-within t a w; spelled = sym e ∙ spell-write t }
+  split-ranges : (ks : Products) → In-ranges ks ↔ (Coefficients-fit ks × Parts-short ks)
+  split-ranges none = (λ h. (tt, tt), λ h. tt)
+  split-ranges (product c s ks) =
+      let p = split-range s in
+      let q = split-ranges ks in
+      ( λ h. let a = p .0 (h .1) in let b = q .0 (h .2) in ((h .0, a .0, b .0), (a .1, b .1))
+      , λ h. (h .0 .0, p .1 (h .0 .1, h .1 .0), q .1 (h .0 .2, h .1 .1)) )
 
-loose-said : (t : Tree) (u : Toks) → Of-sort state t → map Some (spell t) ≡ u → Said 64 state false t u []
-loose-said t u s e = record { sorted = s; within = tt; spelled = sym e ∙ spell-write t }
+allowed-within : (t : Tree) → Allowed t → (w : Limits) → Within 64 w t
+allowed-within t a free = tt
+allowed-within t a numbers = split-range t .0 (a .ranged) .0
+allowed-within t a sizes = (split-range t .0 (a .ranged) .1, a .shallow)
+
+-- a tree is said by its spelling
+spelling-said : (t : Tree) (u : Toks) (w : Limits) → Of-sort state t → Within 64 w t → map Some (spell t) ≡ u → Said 64 state w t u []
+spelling-said t u w s h e = record { sorted = s; within = h; spelled = sym e ∙ spell-write t }
 
 begin-term : (u : Toks) → Begins (Said 64 state) u → Begin-term u
 begin-term u g =
@@ -53,23 +75,22 @@ toks-split : (ws front back : List Item) → ws ≡ front ++ back → toks ws �
 toks-split ws front back e = ap toks e ∙ map-append (λ i. i .1) front back
 
 -- words that are refused say nothing that is allowed
-never-said : {A : Type 0} (stop : ℕ) (L : Bool → A → Toks → Toks → Type 0) (u : Toks) (back : List Item) (f : GrammarFault)
-    → Cause stop L u back f → ((w : Bool) → Starts L w (u ++ toks back)) → ⊥
-never-said stop L u [] f c s = c .1 (subst (λ k. Starts L false k) (append-nil u) (s false))
-never-said stop L u (i ∷ is) (Word g) c s = c .2 (toks is) (s false)
-never-said stop L u (i ∷ is) (Misplaced p) c s = c .2 (toks is) (s false)
-never-said stop L u (i ∷ is) (OutOfRange p) c s = c .3 (toks is) (s true)
-never-said stop L u (i ∷ is) (TooMany p) c s = c .3 (toks is) (s true)
+never-said : {A : Type 0} (stop : ℕ) (L : Limits → A → Toks → Toks → Type 0) (u : Toks) (back : List Item) (f : GrammarFault)
+    → Cause stop L u back f → ((w : Limits) → Starts L w (u ++ toks back)) → ⊥
+never-said stop L u [] f c s = c .1 (subst (λ k. Starts L free k) (append-nil u) (s free))
+never-said stop L u (i ∷ is) (Word g) c s = c .2 (toks is) (s free)
+never-said stop L u (i ∷ is) (Misplaced p) c s = c .2 (toks is) (s free)
+never-said stop L u (i ∷ is) (OutOfRange p) c s = c .3 (toks is) (s numbers)
+never-said stop L u (i ∷ is) (TooMany p) c s = c .3 (toks is) (s sizes)
 
 module _ (stop : ℕ) (ws : List Item) where
-  sound-lone : (t x : Tree) (front rest : List Item) → ws ≡ front ++ rest → ((w : Bool) (v : Toks) → Said 64 state w x (toks front ++ v) v)
+  sound-lone : (t x : Tree) (front rest : List Item) → ws ≡ front ++ rest → ((w : Limits) (v : Toks) → Said 64 state w x (toks front ++ v) v)
       → lone x rest ≡ Ok t → (toks ws ≡ map Some (spell t)) × Allowed t
   sound-lone t x front [] e said o =
       let same : x ≡ t = cc in
-      let h : Said 64 state true t (toks front ++ []) [] = subst (λ y. Said 64 state true y (toks front ++ []) []) same (said true []) in (
-        toks-split ws front [] e ∙ h .spelled ∙ sym (spell-write t),
-        record { sorted = h .sorted; ranged = h .within .0; shallow = h .within .1 },
-      )
+      let h : (w : Limits) → Said 64 state w t (toks front ++ []) [] = λ w. subst (λ y. Said 64 state w y (toks front ++ []) []) same (said w []) in
+      ( toks-split ws front [] e ∙ h free .spelled ∙ sym (spell-write t)
+      , record { sorted = h free .sorted; ranged = split-range t .1 (h numbers .within, h sizes .within .0); shallow = h sizes .within .1 } )
   sound-lone t x front (i ∷ rest) e said o = absurd (let z : _≡_ {A = ℕ} 0 1 = cc in let y : ⊥ = omega arith in y)
 
   sound-of : (o : Out Tree) (t : Tree) → Right stop (Said 64 state) o ws → finish o ≡ Ok t → (toks ws ≡ map Some (spell t)) × Allowed t
@@ -82,11 +103,11 @@ module _ (stop : ℕ) (ws : List Item) where
 
   complete-of : (o : Out Tree) (t : Tree) → Right stop (Said 64 state) o ws → toks ws ≡ map Some (spell t) → Allowed t → finish o ≡ Ok t
   complete-of (Ok x) t r e a =
-      let k = told t (x .0) [] (toks (x .1)) (sym (spell-write t) ∙ sym e ∙ toks-split ws (r .0) (x .1) (r .1) ∙ r .2 false (toks (x .1)) .spelled) in
+      let k = told t (x .0) [] (toks (x .1)) (sym (spell-write t) ∙ sym e ∙ toks-split ws (r .0) (x .1) (r .1) ∙ r .2 free (toks (x .1)) .spelled) in
       complete-lone t (x .0) (x .1) (k .0) (k .1)
   complete-of (Err f) t r e a =
       absurd (never-said stop (Said 64 state) (toks (r .0)) (r .1) f (r .4)
-      (λ w. (t, [], allowed-said t (toks (r .0) ++ toks (r .1)) a (sym e ∙ toks-split ws (r .0) (r .1) (r .2)) w)))
+      (λ w. (t, [], spelling-said t (toks (r .0) ++ toks (r .1)) w (a .sorted) (allowed-within t a w) (sym e ∙ toks-split ws (r .0) (r .1) (r .2)))))
 
   -- a word behind the words of a term
   behind-term : (x t : Tree) (u more : Toks) (k : Option Token) → ((v : Toks) → u ++ v ≡ write x v) → map Some (spell t) ≡ (u ++ (k ∷ [])) ++ more → ⊥
@@ -103,7 +124,7 @@ module _ (stop : ℕ) (ws : List Item) where
   abbrev Refusal-of : GrammarFault → Type 0
   Refusal-of f = (front : List Item) × (back : List Item) × (ws ≡ front ++ back) × Begin-term (toks front) × Wrong stop (toks front) back f
 
-  refused-lone : (f : GrammarFault) (x : Tree) (front rest : List Item) → ws ≡ front ++ rest → ((w : Bool) (v : Toks) → Said 64 state w x (toks front ++ v) v)
+  refused-lone : (f : GrammarFault) (x : Tree) (front rest : List Item) → ws ≡ front ++ rest → ((w : Limits) (v : Toks) → Said 64 state w x (toks front ++ v) v)
       → lone x rest ≡ Err f → Refusal-of f
   refused-lone f x front [] e said o = absurd (let z : _≡_ {A = ℕ} 0 1 = cc in let y : ⊥ = omega arith in y)
   refused-lone f x front (i ∷ rest) e said o =
@@ -111,27 +132,21 @@ module _ (stop : ℕ) (ws : List Item) where
         front,
         i ∷ rest,
         e,
-        begin-term (toks front) (x, λ v. (v, said false v)),
-        subst (λ y. Wrong stop (toks front) (i ∷ rest) y) g (stray-wrong x (toks front) (i .0) (i .1) rest (λ v. said false v .spelled)),
+        begin-term (toks front) (x, λ v. (v, said free v)),
+        subst (λ y. Wrong stop (toks front) (i ∷ rest) y) g (stray-wrong x (toks front) (i .0) (i .1) rest (λ v. said free v .spelled)),
       )
 
   wrong-of : (u : Toks) (back : List Item) (f : GrammarFault) → Cause stop (Said 64 state) u back f → Wrong stop u back f
-  wrong-of u [] f c = (c .0, λ t s e. c .1 (t, [], loose-said t u s e))
+  wrong-of u [] f c = (c .0, λ t s e. c .1 (t, [], spelling-said t u free s tt e))
   wrong-of u (i ∷ is) (Word g) c = (c .0, c .1)
   wrong-of u (i ∷ is) (Misplaced p) c =
-      (c .0, c .1, λ b. c .2 (b .1) (b .0, [], loose-said (b .0) (u ++ (i .1 ∷ b .1)) (b .2) (b .3 ∙ append-assoc u (i .1 ∷ []) (b .1))))
-  wrong-of u (i ∷ is) (OutOfRange p) c = (
-    c .0,
-    c .1,
-    begin-term (u ++ (i .1 ∷ [])) (c .2),
-    λ b. c .3 (b .1) (b .0, [], allowed-said (b .0) (u ++ (i .1 ∷ b .1)) (b .2) (b .3 ∙ append-assoc u (i .1 ∷ []) (b .1)) true),
-  )
-  wrong-of u (i ∷ is) (TooMany p) c = (
-    c .0,
-    c .1,
-    begin-term (u ++ (i .1 ∷ [])) (c .2),
-    λ b. c .3 (b .1) (b .0, [], allowed-said (b .0) (u ++ (i .1 ∷ b .1)) (b .2) (b .3 ∙ append-assoc u (i .1 ∷ []) (b .1)) true),
-  )
+      (c .0, c .1, λ b. c .2 (b .1) (b .0, [], spelling-said (b .0) (u ++ (i .1 ∷ b .1)) free (b .2) tt (b .3 ∙ append-assoc u (i .1 ∷ []) (b .1))))
+  wrong-of u (i ∷ is) (OutOfRange p) c =
+      ( c .0, c .1, begin-term (u ++ (i .1 ∷ [])) (c .2)
+      , λ b. c .3 (b .1) (b .0, [], spelling-said (b .0) (u ++ (i .1 ∷ b .1)) numbers (b .2 .0) (b .2 .1) (b .3 ∙ append-assoc u (i .1 ∷ []) (b .1))) )
+  wrong-of u (i ∷ is) (TooMany p) c =
+      ( c .0, c .1, begin-term (u ++ (i .1 ∷ [])) (c .2)
+      , λ b. c .3 (b .1) (b .0, [], spelling-said (b .0) (u ++ (i .1 ∷ b .1)) sizes (b .2 .0) (b .2 .1, b .2 .2) (b .3 ∙ append-assoc u (i .1 ∷ []) (b .1))) )
 
   refused-of : (o : Out Tree) (f : GrammarFault) → Right stop (Said 64 state) o ws → finish o ≡ Err f → Refusal-of f
   refused-of (Ok x) f r e = refused-lone f (x .0) (r .0) (x .1) (r .1) (r .2) e

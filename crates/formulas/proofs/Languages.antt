@@ -1,5 +1,5 @@
 -- The languages of the readers: terms, sums, quantities, products and numbers.
-use mathlib.Core.Bool.{Bool, true, false}
+use mathlib.Core.Bool.{true, false}
 use mathlib.Core.List.{List, [], _∷_, _++_}
 use mathlib.Core.Path.{_≡_, refl, sym, ap, subst, _∙_}
 use Prim.Native.Nat.{ℕ, zero, suc, _+_, _-_, max, _≤_}
@@ -8,14 +8,16 @@ use Rattle.std.specs.declared.option.Option.the-variants.{Some, None}
 use Rattle.formulas.specs.declared.token.Token.{Token}
 use Rattle.formulas.specs.declared.token.Token.the-variants.{Open, Close, True, False, And, Not, Dia, Here, Prob, AtLeast, Plus, Times, Numeral}
 use Rattle.formulas.specs.Lines.{Sort, state, dist}
-use Rattle.formulas.specs.Trees.{Tree, leaf, conj, neg, dia, here, at-least, Products, none, product, Of-sort, Of-products, In-range, In-ranges, count, coefficients, depth, sum-depth, products-depth}
+use Rattle.formulas.specs.Trees.{Tree, leaf, conj, neg, dia, here, at-least, Products, none, product, Of-sort, Of-products, count, coefficients, depth, sum-depth, products-depth}
+use Rattle.formulas.specs.Spelling.{Numbers-fit, Coefficients-fit, Sums-short, Parts-short}
 use Rattle.formulas.proofs.Written.{Toks, write, write-products, write-sum, shape, sum-shape, products-shape, told, products-told, sum-told}
-use Rattle.formulas.proofs.Outcomes.{Lang, Begins, Clear, Proper, Two}
+use Rattle.formulas.proofs.Outcomes.{Limits, free, numbers, sizes, Lang, Begins, Clear, Proper, Two}
 
 -- a number from low to high
-abbrev pub In-bounds : ℕ → ℕ → Bool → ℕ → Type 0
-In-bounds low high true n = (low ≤ n) × (n ≤ high)
-In-bounds low high false n = Unit {0}
+abbrev pub In-bounds : ℕ → ℕ → Limits → ℕ → Type 0
+In-bounds low high free n = Unit {0}
+In-bounds low high numbers n = (low ≤ n) × (n ≤ high)
+In-bounds low high sizes n = Unit {0}
 
 abbrev pub Counted : ℕ → ℕ → Lang ℕ
 Counted low high w n u v = In-bounds low high w n × (u ≡ Some (Numeral n) ∷ v)
@@ -57,11 +59,12 @@ counted-clear low high w w′ a a′ u v v′ h h′ =
     ((let z : a ≡ a′ = cc in z), (let z : v ≡ v′ = cc in z))
 
 -- a term of a sort in which at most room parentheses are open at a time
-abbrev pub Within : ℕ → Bool → Tree → Type 0
-Within room true b = In-range b × (depth b ≤ room)
-Within room false b = Unit {0}
+abbrev pub Within : ℕ → Limits → Tree → Type 0
+Within room free b = Unit {0}
+Within room numbers b = Numbers-fit b
+Within room sizes b = Sums-short b × (depth b ≤ room)
 
-pub record Said (room : ℕ) (σ : Sort) (w : Bool) (b : Tree) (u v : Toks) : Type 0 where
+pub record Said (room : ℕ) (σ : Sort) (w : Limits) (b : Tree) (u v : Toks) : Type 0 where
   pub sorted : Of-sort σ b
   pub within : Within room w b
   pub spelled : u ≡ write b v
@@ -80,9 +83,12 @@ said-clear room σ w w′ a a′ u v v′ h h′ = told a a′ v v′ (sym (h .s
 abbrev pub Body : ℕ → Sort → Lang Tree
 Body room σ w b u v = Said (suc room) σ w b (Some Open ∷ u) v
 
+pub said-opens : (room : ℕ) (σ : Sort) → Begins (Said room σ) (Some Open ∷ [])
+said-opens room σ = (neg (leaf true), λ v. (Some Not ∷ Some True ∷ Some Close ∷ v, record { sorted = tt; within = tt; spelled = refl }))
+
 pub body-proper : (room : ℕ) (σ : Sort) → Proper (Body room σ)
 body-proper room σ = record {
-  some = (neg (leaf true), λ v. (Some Not ∷ Some True ∷ Some Close ∷ v, record { sorted = tt; within = tt; spelled = refl }));
+  some = said-opens (suc room) σ;
   full = λ b v h. shape b (Some Open ∷ []) v (h .spelled);
   known = λ b u v h. shape b (Some Open ∷ None ∷ u) v (h .spelled);
 }
@@ -96,18 +102,16 @@ no-room (dia a d) u v h e = omega arith
 no-room (here d) u v h e = omega arith
 no-room (at-least ks t) u v h e = omega arith
 
-pub said-shallow : (σ : Sort) (b : Tree) (u v : Toks) → Said 0 σ true b (Some Open ∷ u) v → ⊥
+pub said-shallow : (σ : Sort) (b : Tree) (u v : Toks) → Said 0 σ sizes b (Some Open ∷ u) v → ⊥
 said-shallow σ b u v h = no-room b u v (h .within .1) (h .spelled)
 
-pub said-opens : (room : ℕ) (σ : Sort) → Begins (Said room σ) (Some Open ∷ [])
-said-opens room σ = (neg (leaf true), λ v. (Some Not ∷ Some True ∷ Some Close ∷ v, record { sorted = tt; within = tt; spelled = refl }))
-
 -- a sum
-abbrev pub Sum-within : ℕ → Bool → Products → Type 0
-Sum-within room true ks = In-ranges ks × (count ks ≤ 8) × (coefficients ks ≤ 1000) × (sum-depth ks (products-depth ks) ≤ room)
-Sum-within room false ks = Unit {0}
+abbrev pub Sum-within : ℕ → Limits → Products → Type 0
+Sum-within room free ks = Unit {0}
+Sum-within room numbers ks = Coefficients-fit ks × (coefficients ks ≤ 1000)
+Sum-within room sizes ks = Parts-short ks × (count ks ≤ 8) × (sum-depth ks (products-depth ks) ≤ room)
 
-pub record Summed (room : ℕ) (w : Bool) (ks : Products) (u v : Toks) : Type 0 where
+pub record Summed (room : ℕ) (w : Limits) (ks : Products) (u v : Toks) : Type 0 where
   pub sorted : Of-products ks
   pub within : Sum-within room w ks
   pub spelled : u ≡ write-sum ks v
@@ -125,30 +129,31 @@ summed-clear room w w′ a a′ u v v′ h h′ = sum-told a a′ v v′ (sym (h
 abbrev pub Sum-body : ℕ → Lang Products
 Sum-body room w ks u v = Summed (suc room) w ks (Some Open ∷ u) v
 
+pub summed-opens : (room : ℕ) → Begins (Summed room) (Some Open ∷ [])
+summed-opens room = (product 0 (leaf true) none, λ v. (Some Times ∷ Some (Numeral 0) ∷ Some Open ∷ Some Prob ∷ Some True ∷ Some Close ∷ Some Close ∷ v, record { sorted = (tt, tt); within = tt; spelled = refl }))
+
 pub sum-body-proper : (room : ℕ) → Proper (Sum-body room)
 sum-body-proper room = record {
-  some = (product 0 (leaf true) none, λ v. (Some Times ∷ Some (Numeral 0) ∷ Some Open ∷ Some Prob ∷ Some True ∷ Some Close ∷ Some Close ∷ v, record { sorted = (tt, tt); within = tt; spelled = refl }));
+  some = summed-opens (suc room);
   full = λ b v h. sum-shape b (Some Open ∷ []) v (h .spelled);
   known = λ b u v h. sum-shape b (Some Open ∷ None ∷ u) v (h .spelled);
 }
-
-pub summed-opens : (room : ℕ) → Begins (Summed room) (Some Open ∷ [])
-summed-opens room = (product 0 (leaf true) none, λ v. (Some Times ∷ Some (Numeral 0) ∷ Some Open ∷ Some Prob ∷ Some True ∷ Some Close ∷ Some Close ∷ v, record { sorted = (tt, tt); within = tt; spelled = refl }))
 
 no-sum-room : (ks : Products) (u v : Toks) → sum-depth ks (products-depth ks) ≤ 0 → Some Open ∷ u ≡ write-sum ks v → ⊥
 no-sum-room none u v h e = let z : _≡_ {A = ℕ} 0 1 = cc in omega arith
 no-sum-room (product c s none) u v h e = omega arith
 no-sum-room (product c s (product d r ks)) u v h e = omega arith
 
-pub summed-shallow : (ks : Products) (u v : Toks) → Summed 0 true ks (Some Open ∷ u) v → ⊥
-summed-shallow ks u v h = no-sum-room ks u v (h .within .3) (h .spelled)
+pub summed-shallow : (ks : Products) (u v : Toks) → Summed 0 sizes ks (Some Open ∷ u) v → ⊥
+summed-shallow ks u v h = no-sum-room ks u v (h .within .2) (h .spelled)
 
 -- the probability of a state term
-abbrev pub Prob-within : ℕ → Bool → Tree → Type 0
-Prob-within room true s = In-range s × (suc (depth s) ≤ room)
-Prob-within room false s = Unit {0}
+abbrev pub Prob-within : ℕ → Limits → Tree → Type 0
+Prob-within room free s = Unit {0}
+Prob-within room numbers s = Numbers-fit s
+Prob-within room sizes s = Sums-short s × (suc (depth s) ≤ room)
 
-pub record Prob-said (room : ℕ) (w : Bool) (s : Tree) (u v : Toks) : Type 0 where
+pub record Prob-said (room : ℕ) (w : Limits) (s : Tree) (u v : Toks) : Type 0 where
   pub sorted : Of-sort state s
   pub within : Prob-within room w s
   pub spelled : u ≡ Some Open ∷ Some Prob ∷ write s (Some Close ∷ v)
@@ -176,11 +181,12 @@ abbrev pub Factor : ℕ → ℕ → Lang (ℕ × Tree)
 Factor room left = Two (Counted 1 left) (Prob-said room) (λ c s. (c, s))
 
 -- the products left behind a `+`, of which at most more come, and of which enough must come
-abbrev pub Several-within : ℕ → ℕ → ℕ → Bool → Products → Type 0
-Several-within more left room true ks = In-ranges ks × (count ks ≤ more) × (coefficients ks ≤ left) × (products-depth ks ≤ room)
-Several-within more left room false ks = Unit {0}
+abbrev pub Several-within : ℕ → ℕ → ℕ → Limits → Products → Type 0
+Several-within more left room free ks = Unit {0}
+Several-within more left room numbers ks = Coefficients-fit ks × (coefficients ks ≤ left)
+Several-within more left room sizes ks = Parts-short ks × (count ks ≤ more) × (products-depth ks ≤ room)
 
-pub record Several (more left room : ℕ) (w : Bool) (ks : Products) (u v : Toks) : Type 0 where
+pub record Several (more left room : ℕ) (w : Limits) (ks : Products) (u v : Toks) : Type 0 where
   pub sorted : Of-products ks
   pub enough : more ≤ 6 + count ks
   pub within : Several-within more left room w ks
@@ -201,7 +207,7 @@ unfolding some-products
 some-count zero = refl
 some-count (suc n) = ap suc (some-count n)
 
-some-several : (more left room n : ℕ) → more ≤ 6 + n → (v : Toks) → Several more left room false (some-products n) (write-products (some-products n) (Some Close ∷ v)) v
+some-several : (more left room n : ℕ) → more ≤ 6 + n → (v : Toks) → Several more left room free (some-products n) (write-products (some-products n) (Some Close ∷ v)) v
 some-several more left room n h v = record { sorted = some-sorted n; enough = rw (some-count n) h; within = tt; spelled = refl }
 
 pub several-proper : (more left room : ℕ) → Proper (Several more left room)

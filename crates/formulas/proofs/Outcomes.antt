@@ -1,5 +1,4 @@
 -- What it means that a reader answers rightly, for any language, and how this passes on from reader to reader.
-use mathlib.Core.Bool.{Bool, true, false}
 use mathlib.Core.List.{List, [], _∷_, _++_, map}
 use mathlib.Core.Path.{_≡_, refl, sym, ap, subst, _∙_}
 use Prim.Native.Nat.{ℕ}
@@ -21,29 +20,33 @@ toks ws = map (λ i. i .1) ws
 pub toks-append : (k l : List Item) (v : Toks) → toks (k ++ l) ++ v ≡ toks k ++ (toks l ++ v)
 toks-append k l v = ap (λ u. u ++ v) (map-append (λ i. i .1) k l) ∙ append-assoc (toks k) (toks l) v
 
--- a language, within the limits or without them: the value is said by the first words up to the second ones
+-- which limits are kept: none, those of numbers, those of sums and of depth
+pub data Limits : Type 0 where
+  free numbers sizes : Limits
+
+-- a language, within limits: the value is said by the first words up to the second ones
 abbrev pub Lang : Type 0 → Type 1
-Lang A = Bool → A → Toks → Toks → Type 0
+Lang A = Limits → A → Toks → Toks → Type 0
 
 -- the words begin to say some value, whatever comes behind it
 abbrev pub Begins : {A : Type 0} → Lang A → Toks → Type 0
-Begins {A} L u = (b : A) × ((v : Toks) → (n : Toks) × L false b (u ++ n) v)
+Begins {A} L u = (b : A) × ((v : Toks) → (n : Toks) × L free b (u ++ n) v)
 
 -- the words say some value, and may go on
-abbrev pub Starts : {A : Type 0} → Lang A → Bool → Toks → Type 0
+abbrev pub Starts : {A : Type 0} → Lang A → Limits → Toks → Type 0
 Starts {A} L w u = (b : A) × (v : Toks) × L w b u v
 
 -- nothing that goes on with this word says a value
-abbrev pub Bars : {A : Type 0} → Lang A → Bool → Toks → Option Token → Type 0
+abbrev pub Bars : {A : Type 0} → Lang A → Limits → Toks → Option Token → Type 0
 Bars L w u x = (r : Toks) → Starts L w (u ++ (x ∷ r)) → ⊥
 
 -- why a fault is found behind u, where the words left are those of the list
 abbrev pub Cause : {A : Type 0} → ℕ → Lang A → Toks → List Item → GrammarFault → Type 0
-Cause stop L u [] f = (f ≡ Misplaced stop) × (Starts L false u → ⊥)
-Cause stop L u (i ∷ is) (Word g) = (i .0 ≡ g .place) × (i .1 ≡ None) × Bars L false u (i .1)
-Cause stop L u (i ∷ is) (Misplaced p) = (i .0 ≡ p) × ((t : Token) × (i .1 ≡ Some t)) × Bars L false u (i .1)
-Cause stop L u (i ∷ is) (OutOfRange p) = (i .0 ≡ p) × ((n : ℕ) × (i .1 ≡ Some (Numeral n))) × Begins L (u ++ (i .1 ∷ [])) × Bars L true u (i .1)
-Cause stop L u (i ∷ is) (TooMany p) = (i .0 ≡ p) × (i .1 ≡ Some Open) × Begins L (u ++ (i .1 ∷ [])) × Bars L true u (i .1)
+Cause stop L u [] f = (f ≡ Misplaced stop) × (Starts L free u → ⊥)
+Cause stop L u (i ∷ is) (Word g) = (i .0 ≡ g .place) × (i .1 ≡ None) × Bars L free u (i .1)
+Cause stop L u (i ∷ is) (Misplaced p) = (i .0 ≡ p) × ((t : Token) × (i .1 ≡ Some t)) × Bars L free u (i .1)
+Cause stop L u (i ∷ is) (OutOfRange p) = (i .0 ≡ p) × ((n : ℕ) × (i .1 ≡ Some (Numeral n))) × Begins L (u ++ (i .1 ∷ [])) × Bars L numbers u (i .1)
+Cause stop L u (i ∷ is) (TooMany p) = (i .0 ≡ p) × (i .1 ≡ Some Open) × Begins L (u ++ (i .1 ∷ [])) × Bars L sizes u (i .1)
 
 abbrev pub Refused : {A : Type 0} → ℕ → Lang A → List Item → GrammarFault → Type 0
 Refused stop L ws f =
@@ -51,27 +54,27 @@ Refused stop L ws f =
 
 -- what is read is said by the words in front of what is left; or the fault is found where it should be
 abbrev pub Right : {A : Type 0} → ℕ → Lang A → Out A → List Item → Type 0
-Right stop L (Ok x) ws = (front : List Item) × (ws ≡ front ++ x .1) × ((w : Bool) (v : Toks) → L w (x .0) (toks front ++ v) v)
+Right stop L (Ok x) ws = (front : List Item) × (ws ≡ front ++ x .1) × ((w : Limits) (v : Toks) → L w (x .0) (toks front ++ v) v)
 Right stop L (Err f) ws = Refused stop L ws f
 
 -- the value can be told from the words
 abbrev pub Clear : {A : Type 0} → Lang A → Type 0
-Clear {A} L = (w w′ : Bool) (a a′ : A) (u v v′ : Toks) → L w a u v → L w′ a′ u v′ → (a ≡ a′) × (v ≡ v′)
+Clear {A} L = (w w′ : Limits) (a a′ : A) (u v v′ : Toks) → L w a u v → L w′ a′ u v′ → (a ≡ a′) × (v ≡ v′)
 
 module _ {A B : Type 0} (stop : ℕ) (L : Lang A) (M : Lang B) where
-  cause-behind : (p u : Toks) (begins : (k : Toks) → Begins L k → Begins M (p ++ k)) (starts : (w : Bool) (k : Toks) → Starts M w (p ++ k) → Starts L w k)
+  cause-behind : (p u : Toks) (begins : (k : Toks) → Begins L k → Begins M (p ++ k)) (starts : (w : Limits) (k : Toks) → Starts M w (p ++ k) → Starts L w k)
       (back : List Item) (f : GrammarFault) → Cause stop L u back f → Cause stop M (p ++ u) back f
-  cause-behind p u begins starts [] f c = (c .0, λ s. c .1 (starts false u s))
-  cause-behind p u begins starts (i ∷ is) (Word g) c = (c .0, c .1, λ r s. c .2 r (starts false _ (rw append-assoc at s)))
-  cause-behind p u begins starts (i ∷ is) (Misplaced q) c = (c .0, c .1, λ r s. c .2 r (starts false _ (rw append-assoc at s)))
+  cause-behind p u begins starts [] f c = (c .0, λ s. c .1 (starts free u s))
+  cause-behind p u begins starts (i ∷ is) (Word g) c = (c .0, c .1, λ r s. c .2 r (starts free _ (rw append-assoc at s)))
+  cause-behind p u begins starts (i ∷ is) (Misplaced q) c = (c .0, c .1, λ r s. c .2 r (starts free _ (rw append-assoc at s)))
   cause-behind p u begins starts (i ∷ is) (OutOfRange q) c =
-      (c .0, c .1, rw append-assoc (begins _ (c .2)), λ r s. c .3 r (starts true _ (rw append-assoc at s)))
+      (c .0, c .1, rw append-assoc (begins _ (c .2)), λ r s. c .3 r (starts numbers _ (rw append-assoc at s)))
   cause-behind p u begins starts (i ∷ is) (TooMany q) c =
-      (c .0, c .1, rw append-assoc (begins _ (c .2)), λ r s. c .3 r (starts true _ (rw append-assoc at s)))
+      (c .0, c .1, rw append-assoc (begins _ (c .2)), λ r s. c .3 r (starts sizes _ (rw append-assoc at s)))
 
   -- a fault in one language is a fault in another, behind words
   pub refused-behind : (pre ws : List Item) (f : GrammarFault)
-      → ((k : Toks) → Begins L k → Begins M (toks pre ++ k)) → ((w : Bool) (k : Toks) → Starts M w (toks pre ++ k) → Starts L w k)
+      → ((k : Toks) → Begins L k → Begins M (toks pre ++ k)) → ((w : Limits) (k : Toks) → Starts M w (toks pre ++ k) → Starts L w k)
       → Refused stop L ws f → Refused stop M (pre ++ ws) f
   refused-behind pre ws f begins starts r =
       let front = r .0 in
@@ -81,14 +84,14 @@ module _ {A B : Type 0} (stop : ℕ) (L : Lang A) (M : Lang B) where
 
 -- a language is what is left of another behind words
 pub right-behind : {A : Type 0} (stop : ℕ) (L M : Lang A) (pre ws : List Item) (o : Out A)
-    → ((w : Bool) (b : A) (u v : Toks) → L w b u v → M w b (toks pre ++ u) v)
-    → ((w : Bool) (b : A) (u v : Toks) → M w b (toks pre ++ u) v → L w b u v)
+    → ((w : Limits) (b : A) (u v : Toks) → L w b u v → M w b (toks pre ++ u) v)
+    → ((w : Limits) (b : A) (u v : Toks) → M w b (toks pre ++ u) v → L w b u v)
     → Right stop L o ws → Right stop M o (pre ++ ws)
 right-behind stop L M pre ws (Ok x) to from r =
     (pre ++ r .0, ap (λ l. pre ++ l) (r .1) ∙ sym (append-assoc pre (r .0) (x .1)), λ w v. rw toks-append (to w (x .0) _ v (r .2 w v)))
 right-behind stop L M pre ws (Err f) to from r =
     refused-behind stop L M pre ws f
-    (λ k g. (g .0, λ v. (g .1 v .0, rw append-assoc (to false (g .0) _ v (g .1 v .1)))))
+    (λ k g. (g .0, λ v. (g .1 v .0, rw append-assoc (to free (g .0) _ v (g .1 v .1)))))
     (λ w k s. (s .0, s .1, from w (s .0) k (s .1) (s .2))) r
 
 -- a value, and then another behind it
@@ -106,7 +109,7 @@ seq-clear L M l m w w′ b b′ u v v′ h h′ =
     m (h′ .0) w w′ b b′ (h′ .1) v v′ k (h′ .3)
 
 module _ {A B : Type 0} (stop : ℕ) (L : Lang A) (M : A → Lang B) (clear : Clear L) where
-  seq-rest : (a : A) (front rest : List Item) (o : Out B) → ((w : Bool) (v : Toks) → L w a (toks front ++ v) v)
+  seq-rest : (a : A) (front rest : List Item) (o : Out B) → ((w : Limits) (v : Toks) → L w a (toks front ++ v) v)
       → Right stop (M a) o rest → Right stop (Seq L M) o (front ++ rest)
   seq-rest a front rest (Ok y) said r = (
     front ++ r .0,
@@ -115,7 +118,7 @@ module _ {A B : Type 0} (stop : ℕ) (L : Lang A) (M : A → Lang B) (clear : Cl
   )
   seq-rest a front rest (Err f) said r =
       refused-behind stop (M a) (Seq L M) front rest f
-      (λ k g. (g .0, λ v. (g .1 v .0, (a, k ++ g .1 v .0, rw append-assoc (said false (k ++ g .1 v .0)), g .1 v .1))))
+      (λ k g. (g .0, λ v. (g .1 v .0, (a, k ++ g .1 v .0, rw append-assoc (said free (k ++ g .1 v .0)), g .1 v .1))))
       (λ w k s.
       let h = s .2 in
       let e = clear w w a (h .0) (toks front ++ k) k (h .1) (said w k) (h .2) in
@@ -171,8 +174,8 @@ two-clear L M make h k = seq-clear L (λ x. One M (make x)) h (λ x. seq-clear M
 -- what reading the first word asks of a language
 pub record Proper {A : Type 0} (L : Lang A) : Type 0 where
   pub some : Begins L []
-  pub full : (b : A) (v : Toks) → L false b [] v → ⊥
-  pub known : (b : A) (u v : Toks) → L false b (None ∷ u) v → ⊥
+  pub full : (b : A) (v : Toks) → L free b [] v → ⊥
+  pub known : (b : A) (u v : Toks) → L free b (None ∷ u) v → ⊥
 
 module _ {A : Type 0} (stop : ℕ) (L : Lang A) (proper : Proper L) where
   right-lexed : (k : Lexeme → List Item → Out A)
@@ -187,15 +190,15 @@ module _ {A : Type 0} (stop : ℕ) (L : Lang A) (proper : Proper L) where
   right-next k each [] = ([], [], refl, proper .some, (refl, λ s. proper .full (s .0) (s .1) (s .2)))
   right-next k each (i ∷ is) = right-lexed k each (i .0) (i .1) is
 
-  pub right-misplaced : (p : ℕ) (t : Token) (rest : List Item) → ((b : A) (u v : Toks) → L false b (Some t ∷ u) v → ⊥)
+  pub right-misplaced : (p : ℕ) (t : Token) (rest : List Item) → ((b : A) (u v : Toks) → L free b (Some t ∷ u) v → ⊥)
       → Right stop L (Err (Misplaced p)) ((p, Some t) ∷ rest)
   right-misplaced p t rest bars = ([], (p, Some t) ∷ rest, refl, proper .some, (refl, (t, refl), λ r s. bars (s .0) r (s .1) (s .2)))
 
-  pub right-too-many : (p : ℕ) (rest : List Item) → Begins L (Some Open ∷ []) → ((b : A) (u v : Toks) → L true b (Some Open ∷ u) v → ⊥)
+  pub right-too-many : (p : ℕ) (rest : List Item) → Begins L (Some Open ∷ []) → ((b : A) (u v : Toks) → L sizes b (Some Open ∷ u) v → ⊥)
       → Right stop L (Err (TooMany p)) ((p, Some Open) ∷ rest)
   right-too-many p rest begins bars = ([], (p, Some Open) ∷ rest, refl, proper .some, (refl, refl, begins, λ r s. bars (s .0) r (s .1) (s .2)))
 
-  pub right-out-of-range : (p n : ℕ) (rest : List Item) → Begins L (Some (Numeral n) ∷ []) → ((b : A) (u v : Toks) → L true b (Some (Numeral n) ∷ u) v → ⊥)
+  pub right-out-of-range : (p n : ℕ) (rest : List Item) → Begins L (Some (Numeral n) ∷ []) → ((b : A) (u v : Toks) → L numbers b (Some (Numeral n) ∷ u) v → ⊥)
       → Right stop L (Err (OutOfRange p)) ((p, Some (Numeral n)) ∷ rest)
   right-out-of-range p n rest begins bars =
       ([], (p, Some (Numeral n)) ∷ rest, refl, proper .some, (refl, (n, refl), begins, λ r s. bars (s .0) r (s .1) (s .2)))

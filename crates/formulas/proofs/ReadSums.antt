@@ -17,21 +17,23 @@ use Rattle.formulas.specs.Grammar.{Item, Out, then, next, code, expect, number
 use Rattle.formulas.specs.Lines.{state}
 use Rattle.formulas.specs.Trees.{Tree, Products, none, product, Of-sort, Of-products, count, sum-depth, products-depth}
 use Rattle.formulas.proofs.Written.{Toks, write, write-products, write-sum, sum-shape, Sum-started, Sum-headed, products-shape, Products-started}
-use Rattle.formulas.proofs.Outcomes.{Lang, Begins, Right, Clear, right-behind, Seq, seq-begins, seq-clear, right-then, Done, right-done, done-some, Just, just-clear, just-some, One, Two, one-some, two-some, two-clear, right-next, right-misplaced, right-too-many}
+use Rattle.formulas.proofs.Outcomes.{Limits, free, numbers, sizes, Lang, Begins, Right, Clear, right-behind, Seq, seq-begins, seq-clear, right-then, Done, right-done, done-some, Just, just-clear, just-some, One, Two, one-some, two-some, two-clear, right-next, right-misplaced, right-too-many}
 use Rattle.formulas.proofs.Languages.{In-bounds, Counted, counted-proper, counted-clear, Within, Said, said-proper, said-clear, Sum-within, Summed, summed-proper, Sum-body, sum-body-proper, Prob-within, Prob-said, prob-proper, prob-opens, prob-clear, Factor, Several-within, Several, several-proper, several-clear, several-opens}
 use Rattle.formulas.proofs.ReadTokens.{by-test, code-told, right-expect, right-one, right-two, right-number}
 
 -- the limits of products, and of those behind the first
-product-within : (room r more left : ℕ) → room ≡ suc r → (w : Bool) (c : ℕ) (s : Tree) (ks : Products)
+product-within : (room r more left : ℕ) → room ≡ suc r → (w : Limits) (c : ℕ) (s : Tree) (ks : Products)
   → Several-within (suc more) left room w (product c s ks) ↔ (In-bounds 1 left w c × Prob-within r w s × Several-within more (left - c) room w ks)
-product-within room r more left e true c s ks =
-    ( λ h. ((h .0 .0, omega arith), (h .0 .1, omega arith), (h .0 .2, omega arith, omega arith, omega arith))
-    , λ h. ((h .0 .0, h .1 .0, h .2 .0), omega arith, omega arith, omega arith) )
-product-within room r more left e false c s ks = (λ h. (tt, tt, tt), λ h. tt)
+product-within room r more left e free c s ks = (λ h. (tt, tt, tt), λ h. tt)
+product-within room r more left e numbers c s ks =
+    (λ h. ((h .0 .0, omega arith), h .0 .1, (h .0 .2, omega arith)), λ h. ((h .0 .0, h .1, h .2 .0), omega arith))
+product-within room r more left e sizes c s ks =
+    (λ h. (tt, (h .0 .0, omega arith), (h .0 .1, omega arith, omega arith)), λ h. ((h .1 .0, h .2 .0), omega arith, omega arith))
 
-alone-within : (room : ℕ) (w : Bool) (c : ℕ) (s : Tree) → Sum-within (suc room) w (product c s none) ↔ (In-bounds 1 1000 w c × Prob-within room w s)
-alone-within room true c s = (λ h. ((h .0 .0, omega arith), (h .0 .1, omega arith)), λ h. ((h .0 .0, h .1 .0, tt), omega arith, omega arith, omega arith))
-alone-within room false c s = (λ h. (tt, tt), λ h. tt)
+alone-within : (room : ℕ) (w : Limits) (c : ℕ) (s : Tree) → Sum-within (suc room) w (product c s none) ↔ (In-bounds 1 1000 w c × Prob-within room w s)
+alone-within room free c s = (λ h. (tt, tt), λ h. tt)
+alone-within room numbers c s = (λ h. ((h .0 .0, omega arith), h .0 .1), λ h. ((h .0 .0, h .1, tt), omega arith))
+alone-within room sizes c s = (λ h. (tt, (h .0 .0, omega arith)), λ h. ((h .1 .0, tt), omega arith, omega arith))
 
 -- two products or more
 many-spelled : (ks : Products) (v : Toks) → 2 ≤ count ks → write-sum ks v ≡ Some Open ∷ Some Plus ∷ write-products ks (Some Close ∷ v)
@@ -44,11 +46,12 @@ many-deep none d h = absurd (let z : ⊥ = omega arith in z)
 many-deep (product c s none) d h = absurd (let z : ⊥ = omega arith in z)
 many-deep (product c s (product e r ks)) d h = refl
 
-many-within : (room : ℕ) (w : Bool) (ks : Products) → 2 ≤ count ks → Sum-within (suc room) w ks ↔ Several-within 8 1000 room w ks
-many-within room true ks m =
+many-within : (room : ℕ) (w : Limits) (ks : Products) → 2 ≤ count ks → Sum-within (suc room) w ks ↔ Several-within 8 1000 room w ks
+many-within room free ks m = (λ h. tt, λ h. tt)
+many-within room numbers ks m = (λ h. h, λ h. h)
+many-within room sizes ks m =
     let d = many-deep ks (products-depth ks) m in
-    (λ h. (h .0, h .1, h .2, omega arith), λ h. (h .0, h .1, h .2, omega arith))
-many-within room false ks m = (λ h. tt, λ h. tt)
+    (λ h. (h .0, h .1, omega arith), λ h. (h .0, h .1, omega arith))
 
 -- whether a token closes or opens products, or neither
 by-mark : (P : Token → Type 0) → P Close → P Open
@@ -78,13 +81,13 @@ right-factor stop room quantity h left ws =
       (number 1 left stop ws) quantity ws (right-number stop 1 left ws) h
 
 -- what a product behind its `*` is
-record Factored (room left : ℕ) (w : Bool) (k : ℕ × Tree) (u v : Toks) : Type 0 where
+record Factored (room left : ℕ) (w : Limits) (k : ℕ × Tree) (u v : Toks) : Type 0 where
   bounded : In-bounds 1 left w (k .0)
   sorted : Of-sort state (k .1)
   within : Prob-within room w (k .1)
   spelled : u ≡ Some (Numeral (k .0)) ∷ Some Open ∷ Some Prob ∷ write (k .1) (Some Close ∷ Some Close ∷ v)
 
-factored : (room left : ℕ) (w : Bool) (k : ℕ × Tree) (u v : Toks) → Factor room left w k u v → Factored room left w k u v
+factored : (room left : ℕ) (w : Limits) (k : ℕ × Tree) (u v : Toks) → Factor room left w k u v → Factored room left w k u v
 factored room left w k u v h =
     let q = h .3 .2 in
     let e = h .3 .3 in
@@ -95,7 +98,7 @@ factored room left w k u v h =
       spelled = h .2 .1 ∙ ap (λ l. Some (Numeral (h .0)) ∷ l) (q .spelled ∙ ap (λ l. Some Open ∷ Some Prob ∷ write (h .3 .0) (Some Close ∷ l)) (e .1));
     })
 
-factor-of : (room left : ℕ) (w : Bool) (c : ℕ) (s : Tree) (v : Toks) → In-bounds 1 left w c → Of-sort state s → Prob-within room w s
+factor-of : (room left : ℕ) (w : Limits) (c : ℕ) (s : Tree) (v : Toks) → In-bounds 1 left w c → Of-sort state s → Prob-within room w s
     → Factor room left w (c, s) (Some (Numeral c) ∷ Some Open ∷ Some Prob ∷ write s (Some Close ∷ Some Close ∷ v)) v
 factor-of room left w c s v b g h = (
   c,
@@ -116,9 +119,10 @@ Right-element stop room element =
     ⊎ ((r : ℕ) × (room ≡ suc r) × Right stop (Element r left) (element (record { token = Open; place = p }) left rest) rest)
 
 module _ (stop room : ℕ) (element : Lexeme → ℕ → List Item → Out (ℕ × Tree)) (elements : Right-element stop room element) where
-  no-products : (more left : ℕ) → more ≤ 6 → (w : Bool) (v : Toks) → Several more left room w none (Some Close ∷ v) v
-  no-products more left h true v = record { sorted = tt; enough = omega arith; within = (tt, omega arith, omega arith, omega arith); spelled = refl }
-  no-products more left h false v = record { sorted = tt; enough = omega arith; within = tt; spelled = refl }
+  no-products : (more left : ℕ) → more ≤ 6 → (w : Limits) (v : Toks) → Several more left room w none (Some Close ∷ v) v
+  no-products more left h free v = record { sorted = tt; enough = omega arith; within = tt; spelled = refl }
+  no-products more left h numbers v = record { sorted = tt; enough = omega arith; within = (tt, omega arith); spelled = refl }
+  no-products more left h sizes v = record { sorted = tt; enough = omega arith; within = (tt, omega arith, omega arith); spelled = refl }
 
   neither : (more left p : ℕ) (t : Token) (rest : List Item) → ((ks : Products) (u v : Toks) → Products-started t ks u v → ⊥)
       → Right stop (Several more left room) (Err (Misplaced p)) ((p, Some t) ∷ rest)
@@ -129,7 +133,7 @@ module _ (stop room : ℕ) (element : Lexeme → ℕ → List Item → Out (ℕ 
   abbrev rest-of : ℕ → ℕ → ℕ × Tree → Lang Products
   rest-of more left k = Seq (Several more (left - k .0) room) (λ ks. Done (product (k .0) (k .1) ks))
 
-  more-products : (r more left : ℕ) → room ≡ suc r → (w : Bool) (b : Products) (u v : Toks)
+  more-products : (r more left : ℕ) → room ≡ suc r → (w : Limits) (b : Products) (u v : Toks)
       → Seq (Element r left) (rest-of more left) w b u v → Several (suc more) left room w b (Some Open ∷ u) v
   more-products r more left e w b u v h =
       let f = factored r left w (h .0) (h .2 .1) (h .1) (h .2 .3) in
@@ -144,7 +148,7 @@ module _ (stop room : ℕ) (element : Lexeme → ℕ → List Item → Out (ℕ 
             (ks .spelled ∙ ap (λ l. write-products (h .3 .0) (Some Close ∷ l)) (z .1))));
       })
 
-  products-more : (r more left : ℕ) → room ≡ suc r → (w : Bool) (b : Products) (u v : Toks)
+  products-more : (r more left : ℕ) → room ≡ suc r → (w : Limits) (b : Products) (u v : Toks)
       → Several (suc more) left room w b (Some Open ∷ u) v → Seq (Element r left) (rest-of more left) w b u v
   products-more r more left e w b u v h =
       let k = products-shape b (Some Open ∷ u) v (h .spelled) in
@@ -183,9 +187,9 @@ module _ (stop room : ℕ) (element : Lexeme → ℕ → List Item → Out (ℕ 
           (right-too-many stop (Several (suc more) left room) (several-proper (suc more) left room) p rest (several-opens (suc more) left room)
           (λ b u v k.
           let g = products-shape b (Some Open ∷ u) v (k .spelled) in
-          let d : Several-within (suc more) left room true (product (g .0) (g .1) (g .2)) = subst (λ x. Several-within (suc more) left room true x) (g .3) (k .within) in
+          let d : Several-within (suc more) left room sizes (product (g .0) (g .1) (g .2)) = subst (λ x. Several-within (suc more) left room sizes x) (g .3) (k .within) in
           let none-left = h .0 in
-          let far = d .3 in
+          let far = d .2 in
           omega arith))
 
       fine : (r : ℕ) × (room ≡ suc r) × Right stop (Element r left) (element (record { token = Open; place = p }) left rest) rest
@@ -210,7 +214,7 @@ module _ (stop room : ℕ) (element : Lexeme → ℕ → List Item → Out (ℕ 
       (right-too-many stop (Several 0 left room) (several-proper 0 left room) p rest (several-opens 0 left room)
       (λ b u v k.
       let g = products-shape b (Some Open ∷ u) v (k .spelled) in
-      let d : Several-within 0 left room true (product (g .0) (g .1) (g .2)) = subst (λ x. Several-within 0 left room true x) (g .3) (k .within) in
+      let d : Several-within 0 left room sizes (product (g .0) (g .1) (g .2)) = subst (λ x. Several-within 0 left room sizes x) (g .3) (k .within) in
       let many = d .1 in
       omega arith))
       (λ k e f never. rw (e, f) (neither 0 left p k rest never)) t) ws
@@ -236,9 +240,10 @@ module _ (stop room : ℕ) where
       → Right stop (Summed deep) (Err (Misplaced p)) ((p, Some t) ∷ rest)
   sum-out deep p t rest never = right-misplaced stop (Summed deep) (summed-proper deep) p t rest (λ b u v h. never b u v (sum-shape b (Some t ∷ u) v (h .spelled)))
 
-  no-sum : (w : Bool) (v : Toks) → Summed room w none (Some (Numeral 0) ∷ v) v
-  no-sum true v = record { sorted = tt; within = (tt, omega arith, omega arith, omega arith); spelled = refl }
-  no-sum false v = record { sorted = tt; within = tt; spelled = refl }
+  no-sum : (w : Limits) (v : Toks) → Summed room w none (Some (Numeral 0) ∷ v) v
+  no-sum free v = record { sorted = tt; within = tt; spelled = refl }
+  no-sum numbers v = record { sorted = tt; within = (tt, omega arith); spelled = refl }
+  no-sum sizes v = record { sorted = tt; within = (tt, omega arith, omega arith); spelled = refl }
 
   -- a sum that is 0, or begins with `(`
   pub right-sum-begun : (behind : Out Products) (p : ℕ) (t : Token) (rest : List Item) → Right stop (Summed room) behind ((p, Some Open) ∷ rest)
@@ -364,9 +369,10 @@ quantity-opened stop room terms rights ws =
     some : Begins inmost []
     some = one-some (Said room state) (λ s. s) (said-proper room state .some)
 
-    prob-within : (w : Bool) (s : Tree) → Prob-within (suc room) w s ↔ Within room w s
-    prob-within true s = (λ h. (h .0, omega arith), λ h. (h .0, omega arith))
-    prob-within false s = (λ h. tt, λ h. tt)
+    prob-within : (w : Limits) (s : Tree) → Prob-within (suc room) w s ↔ Within room w s
+    prob-within free s = (λ h. tt, λ h. tt)
+    prob-within numbers s = (λ h. h, λ h. h)
+    prob-within sizes s = (λ h. (h .0, omega arith), λ h. (h .0, omega arith))
 
 -- a product behind its opening parenthesis, where another may open
 pub element-opened : (stop r left : ℕ) (quantity : List Item → Out Tree) → ((ws : List Item) → Right stop (Prob-said r) (quantity ws) ws) → (ws : List Item)

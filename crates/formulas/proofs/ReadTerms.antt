@@ -14,7 +14,7 @@ use Rattle.formulas.specs.Grammar.{Item, Out, then, number, closed, begun, hea
 use Rattle.formulas.specs.Lines.{Sort, state, dist}
 use Rattle.formulas.specs.Trees.{Tree, leaf, conj, neg, dia, here, at-least, Products, Of-sort}
 use Rattle.formulas.proofs.Written.{Toks, write, write-sum, Headed, shape}
-use Rattle.formulas.proofs.Outcomes.{Right, right-behind, One, Two, right-misplaced}
+use Rattle.formulas.proofs.Outcomes.{Limits, free, numbers, sizes, Right, right-behind, One, Two, right-misplaced}
 use Rattle.formulas.proofs.Languages.{In-bounds, Counted, counted-proper, counted-clear, Within, Said, said-proper, said-clear, Body, body-proper, Sum-within, Summed, summed-clear}
 use Rattle.formulas.proofs.ReadTokens.{right-one, right-two, right-number}
 
@@ -25,12 +25,13 @@ module _ (stop : ℕ) where
       → Right stop (Said room σ) (begun (record { token = t; place = p }) rest behind) ((p, Some t) ∷ rest)
   right-begun room σ behind p t rest h = each t
     where
-      out : (k : Token) → ((b : Tree) (u v : Toks) → Said room σ false b (Some k ∷ u) v → ⊥) → Right stop (Said room σ) (Err (Misplaced p)) ((p, Some k) ∷ rest)
+      out : (k : Token) → ((b : Tree) (u v : Toks) → Said room σ free b (Some k ∷ u) v → ⊥) → Right stop (Said room σ) (Err (Misplaced p)) ((p, Some k) ∷ rest)
       out k never = right-misplaced stop (Said room σ) (said-proper room σ) p k rest never
 
-      constant : (b : Bool) (w : Bool) (v : Toks) → Said room σ w (leaf b) (write (leaf b) v) v
-      constant b true v = record { sorted = tt; within = (tt, omega arith); spelled = refl }
-      constant b false v = record { sorted = tt; within = tt; spelled = refl }
+      constant : (b : Bool) (w : Limits) (v : Toks) → Said room σ w (leaf b) (write (leaf b) v) v
+      constant b free v = record { sorted = tt; within = tt; spelled = refl }
+      constant b numbers v = record { sorted = tt; within = tt; spelled = refl }
+      constant b sizes v = record { sorted = tt; within = (tt, omega arith); spelled = refl }
 
       each : (k : Token) → Right stop (Said room σ) (begun (record { token = k; place = p }) rest behind) ((p, Some k) ∷ rest)
       each Open = h
@@ -48,33 +49,37 @@ module _ (stop : ℕ) where
       each (Numeral n) = out (Numeral n) (λ b u v k. shape b (Some (Numeral n) ∷ u) v (k .spelled))
 
 -- the limits of a term and of its parts
-conj-within : (room : ℕ) (w : Bool) (x y : Tree) → Within (suc room) w (conj x y) ↔ (Within room w x × Within room w y)
-conj-within room true x y = (λ h. ((h .0 .0, omega arith), (h .0 .1, omega arith)), λ h. ((h .0 .0, h .1 .0), omega arith))
-conj-within room false x y = (λ h. (tt, tt), λ h. tt)
+conj-within : (room : ℕ) (w : Limits) (x y : Tree) → Within (suc room) w (conj x y) ↔ (Within room w x × Within room w y)
+conj-within room free x y = (λ h. (tt, tt), λ h. tt)
+conj-within room numbers x y = (λ h. h, λ h. h)
+conj-within room sizes x y = (λ h. ((h .0 .0, omega arith), (h .0 .1, omega arith)), λ h. ((h .0 .0, h .1 .0), omega arith))
 
-neg-within : (room : ℕ) (w : Bool) (x : Tree) → Within (suc room) w (neg x) ↔ Within room w x
-neg-within room true x = (λ h. (h .0, omega arith), λ h. (h .0, omega arith))
-neg-within room false x = (λ h. tt, λ h. tt)
+neg-within : (room : ℕ) (w : Limits) (x : Tree) → Within (suc room) w (neg x) ↔ Within room w x
+neg-within room free x = (λ h. tt, λ h. tt)
+neg-within room numbers x = (λ h. h, λ h. h)
+neg-within room sizes x = (λ h. (h .0, omega arith), λ h. (h .0, omega arith))
 
-here-within : (room : ℕ) (w : Bool) (x : Tree) → Within (suc room) w (here x) ↔ Within room w x
-here-within room true x = (λ h. (h .0, omega arith), λ h. (h .0, omega arith))
-here-within room false x = (λ h. tt, λ h. tt)
+here-within : (room : ℕ) (w : Limits) (x : Tree) → Within (suc room) w (here x) ↔ Within room w x
+here-within room free x = (λ h. tt, λ h. tt)
+here-within room numbers x = (λ h. h, λ h. h)
+here-within room sizes x = (λ h. (h .0, omega arith), λ h. (h .0, omega arith))
 
-dia-within : (room : ℕ) (w : Bool) (a : ℕ) (x : Tree) → Within (suc room) w (dia a x) ↔ (In-bounds 0 31 w a × Within room w x)
-dia-within room true a x = (λ h. ((omega arith, h .0 .0), (h .0 .1, omega arith)), λ h. ((h .0 .1, h .1 .0), omega arith))
-dia-within room false a x = (λ h. (tt, tt), λ h. tt)
+dia-within : (room : ℕ) (w : Limits) (a : ℕ) (x : Tree) → Within (suc room) w (dia a x) ↔ (In-bounds 0 31 w a × Within room w x)
+dia-within room free a x = (λ h. (tt, tt), λ h. tt)
+dia-within room numbers a x = (λ h. ((omega arith, h .0), h .1), λ h. (h .0 .1, h .1))
+dia-within room sizes a x = (λ h. (tt, (h .0, omega arith)), λ h. (h .1 .0, omega arith))
 
-at-least-within : (room : ℕ) (w : Bool) (ks : Products) (t : ℕ) → Within (suc room) w (at-least ks t) ↔ (Sum-within room w ks × In-bounds 0 1000 w t)
-at-least-within room true ks t =
-    (λ h. ((h .0 .0, h .0 .1, h .0 .2, omega arith), (omega arith, h .0 .3)), λ h. ((h .0 .0, h .0 .1, h .0 .2, h .1 .1), omega arith))
-at-least-within room false ks t = (λ h. (tt, tt), λ h. tt)
+at-least-within : (room : ℕ) (w : Limits) (ks : Products) (t : ℕ) → Within (suc room) w (at-least ks t) ↔ (Sum-within room w ks × In-bounds 0 1000 w t)
+at-least-within room free ks t = (λ h. (tt, tt), λ h. tt)
+at-least-within room numbers ks t = (λ h. ((h .0, h .1), (omega arith, h .2)), λ h. (h .0 .0, h .0 .1, h .1 .1))
+at-least-within room sizes ks t = (λ h. ((h .0 .0, h .0 .1, omega arith), tt), λ h. ((h .0 .0, h .0 .1), omega arith))
 
 module _ (stop room : ℕ) (sub : Sort → List Item → Out Tree) (sums : List Item → Out Products)
     (subs : (τ : Sort) (l : List Item) → Right stop (Said room τ) (sub τ l) l)
     (adds : (l : List Item) → Right stop (Summed room) (sums l) l) where
   -- a term of the sort σ with one part, of the sort τ
   right-only : (σ τ : Sort) (t : Token) (make : Tree → Tree) (sorts : (x : Tree) → Of-sort σ (make x) ↔ Of-sort τ x)
-    (limits : (w : Bool) (x : Tree) → Within (suc room) w (make x) ↔ Within room w x)
+    (limits : (w : Limits) (x : Tree) → Within (suc room) w (make x) ↔ Within room w x)
     (words : (x : Tree) (v : Toks) → Some Open ∷ Some t ∷ write x (Some Close ∷ v) ≡ write (make x) v)
     (shaped : (b : Tree) (u v : Toks) → Some Open ∷ Some t ∷ u ≡ write b v → (x : Tree) × (b ≡ make x) × (u ≡ write x (Some Close ∷ v)))
     (p : ℕ) (ws : List Item) → Right stop (Body room σ) (then (sub τ ws) (λ a r. closed stop (make a) r)) ((p, Some t) ∷ ws)

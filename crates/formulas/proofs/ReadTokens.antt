@@ -13,7 +13,7 @@ use Rattle.formulas.specs.declared.token.Token.{Token}
 use Rattle.formulas.specs.declared.token.Token.the-variants.{Open, Close, True, False, And, Not, Dia, Here, Prob, AtLeast, Plus, Times, Numeral}
 use Rattle.formulas.specs.Grammar.{Item, Out, then, code, expect, value, ranged, number, closed}
 use Rattle.formulas.proofs.Written.{Toks}
-use Rattle.formulas.proofs.Outcomes.{Lang, Begins, Right, Clear, Proper, right-behind, Seq, right-then, Done, right-done, done-some, Just, just-clear, just-some, One, Two, one-some, right-next, right-misplaced, right-out-of-range}
+use Rattle.formulas.proofs.Outcomes.{Limits, free, numbers, sizes, Lang, Begins, Right, Clear, Proper, right-behind, Seq, right-then, Done, right-done, done-some, Just, just-clear, just-some, One, Two, one-some, right-next, right-misplaced, right-out-of-range}
 use Rattle.formulas.proofs.Languages.{In-bounds, Counted, counted-proper, number-shape, Number-started}
 
 -- a test keeps what both of its ways have
@@ -81,9 +81,10 @@ module _ (stop : ℕ) where
           → Right stop (Counted low high) (Err (Misplaced p)) ((p, Some t) ∷ rest)
       out p t rest never = right-misplaced stop (Counted low high) (counted-proper low high) p t rest (λ b u v h. never b u v (number-shape b (Some t ∷ u) v (h .1)))
 
-      inside : (n : ℕ) → (leb low n && leb n high) ≡ true → (w : Bool) → In-bounds low high w n
-      inside n e true = let h = and-parts _ _ e in (leb-true low n (h .0), leb-true n high (h .1))
-      inside n e false = tt
+      inside : (n : ℕ) → (leb low n && leb n high) ≡ true → (w : Limits) → In-bounds low high w n
+      inside n e free = tt
+      inside n e numbers = let h = and-parts _ _ e in (leb-true low n (h .0), leb-true n high (h .1))
+      inside n e sizes = tt
 
       outside : (n m : ℕ) → (leb low n && leb n high) ≡ false → m ≡ n → low ≤ m → m ≤ high → ⊥
       outside n m e q l h = both-ways _ e (and-from _ _ (le-leb low n (omega arith)) (le-leb n high (omega arith)))

@@ -21,7 +21,7 @@ use Rattle.formulas.specs.Lines.{state}
 use Rattle.formulas.specs.Reading.{Slots, fits, reading, laid}
 use Rattle.formulas.specs.Stands.{stands, formula-in}
 use Rattle.formulas.specs.Tokens.{tokenOf}
-use Rattle.formulas.specs.Trees.{Tree, spell, Of-sort, In-range, depth, below, lay}
+use Rattle.formulas.specs.Trees.{Tree, leaf, conj, neg, dia, here, at-least, Products, none, product, spell, Of-sort, In-range, count, coefficients, depth, below, lay}
 use Rattle.formulas.specs.Words.{onward, part}
 
 -- words, each by its token if it has one
@@ -84,12 +84,46 @@ pub record Accepts (text : List ℕ) (s : Slots) (t : Tree) : Type 0 where
   pub allowed : Allowed t
   pub room : fits (fills (lay state 0 t)) s ≡ true
 
--- the words begin the spelling of some state term, its limits aside; of some state term within the limits
-abbrev pub Begin-term : List (Option Token) → Type 0
-Begin-term ws = (t : Tree) × (more : List (Option Token)) × Of-sort state t × (map Some (spell t) ≡ ws ++ more)
+-- its numbers are in their ranges
+abbrev mutual
+  pub Numbers-fit : Tree → Type 0
+  Numbers-fit (leaf b) = Unit {0}
+  Numbers-fit (conj x y) = Numbers-fit x × Numbers-fit y
+  Numbers-fit (neg x) = Numbers-fit x
+  Numbers-fit (dia a d) = (a ≤ 31) × Numbers-fit d
+  Numbers-fit (here d) = Numbers-fit d
+  Numbers-fit (at-least ks t) = Coefficients-fit ks × (coefficients ks ≤ 1000) × (t ≤ 1000)
 
-abbrev pub Begin-allowed : List (Option Token) → Type 0
-Begin-allowed ws = (t : Tree) × (more : List (Option Token)) × Allowed t × (map Some (spell t) ≡ ws ++ more)
+  pub Coefficients-fit : Products → Type 0
+  Coefficients-fit none = Unit {0}
+  Coefficients-fit (product c s ks) = (1 ≤ c) × Numbers-fit s × Coefficients-fit ks
+
+-- none of its sums has more than eight terms
+abbrev mutual
+  pub Sums-short : Tree → Type 0
+  Sums-short (leaf b) = Unit {0}
+  Sums-short (conj x y) = Sums-short x × Sums-short y
+  Sums-short (neg x) = Sums-short x
+  Sums-short (dia a d) = Sums-short d
+  Sums-short (here d) = Sums-short d
+  Sums-short (at-least ks t) = Parts-short ks × (count ks ≤ 8)
+
+  pub Parts-short : Products → Type 0
+  Parts-short none = Unit {0}
+  Parts-short (product c s ks) = Sums-short s × Parts-short ks
+
+-- the words begin the spelling of some state term; of one with numbers in their ranges; of one whose sums and depth are
+abbrev pub Begin : (Tree → Type 0) → List (Option Token) → Type 0
+Begin P ws = (t : Tree) × (more : List (Option Token)) × P t × (map Some (spell t) ≡ ws ++ more)
+
+abbrev pub Begin-term : List (Option Token) → Type 0
+Begin-term ws = Begin (λ t. Of-sort state t) ws
+
+abbrev pub Begin-fit : List (Option Token) → Type 0
+Begin-fit ws = Begin (λ t. Of-sort state t × Numbers-fit t) ws
+
+abbrev pub Begin-small : List (Option Token) → Type 0
+Begin-small ws = Begin (λ t. Of-sort state t × Sums-short t × (depth t ≤ 64)) ws
 
 -- what is wrong behind the words ws, where back are the words from there on and the text ends at stop
 abbrev pub Wrong : ℕ → List (Option Token) → List Item → GrammarFault → Type 0
@@ -99,11 +133,12 @@ Wrong stop ws [] f = (f ≡ Misplaced stop) × ((t : Tree) → Of-sort state t �
 Wrong stop ws (i ∷ back) (Word g) = (i .0 ≡ g .place) × (i .1 ≡ None)
 -- no state term goes on with the next word
 Wrong stop ws (i ∷ back) (Misplaced p) = (i .0 ≡ p) × ((t : Token) × (i .1 ≡ Some t)) × (Begin-term (ws ++ (i .1 ∷ [])) → ⊥)
--- one does that has no limits, and none within them
+-- one does, and none whose numbers are in their ranges
 Wrong stop ws (i ∷ back) (OutOfRange p) =
-    (i .0 ≡ p) × ((n : ℕ) × (i .1 ≡ Some (Numeral n))) × Begin-term (ws ++ (i .1 ∷ [])) × (Begin-allowed (ws ++ (i .1 ∷ [])) → ⊥)
+    (i .0 ≡ p) × ((n : ℕ) × (i .1 ≡ Some (Numeral n))) × Begin-term (ws ++ (i .1 ∷ [])) × (Begin-fit (ws ++ (i .1 ∷ [])) → ⊥)
+-- one does, and none whose sums have at most eight terms and in which at most 64 parentheses are open at a time
 Wrong stop ws (i ∷ back) (TooMany p) =
-    (i .0 ≡ p) × (i .1 ≡ Some Open) × Begin-term (ws ++ (i .1 ∷ [])) × (Begin-allowed (ws ++ (i .1 ∷ [])) → ⊥)
+    (i .0 ≡ p) × (i .1 ≡ Some Open) × Begin-term (ws ++ (i .1 ∷ [])) × (Begin-small (ws ++ (i .1 ∷ [])) → ⊥)
 
 -- a text is refused at the first word behind which something is wrong
 pub record Refusal (text : List ℕ) (f : GrammarFault) : Type 0 where
