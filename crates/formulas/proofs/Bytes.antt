@@ -1,16 +1,16 @@
 -- The words of the language by their bytes.
-use mathlib.Core.Bool.{Bool, true, false, cond, _&&_}
+use mathlib.Core.Bool.{Bool, true, false, cond}
 use mathlib.Core.List.{List, [], _∷_, _++_, map}
 use mathlib.Core.Logic.{_⊎_, inl, inr, _↔_}
 use mathlib.Core.Path.{_≡_, refl, sym, ap, ap₂, subst, _∙_}
-use Prim.Native.Nat.{ℕ, zero, suc, _+_, _-_, _*_, _^_, min, _≤_, _<_}
+use Prim.Native.Nat.{ℕ, zero, suc, _^_, min, _≤_, _<_}
 use native.Mathlib.Omega.{arith}
 use borrow.Author.Needs.{needs}
 use lib.Dec.{eqb, leb}
 use lib.ListN.{length, getD}
 use Rattle.std.proofs.shelf.Decimals.{decimal-digit, decimal-some, first-decimal, digits-decimal, value-decimal, decimal-value}
 use Rattle.std.proofs.shelf.Numerals.{Numerals, numerals-by-fold}
-use Rattle.std.proofs.shelf.Tests.{and-parts, and-from, and-left, eqb-true, eqb-false, ne-eqb, leb-true, le-leb, both-ways}
+use Rattle.std.proofs.shelf.Tests.{and-parts, and-left, eqb-true, eqb-false, ne-eqb, leb-true, both-ways}
 use Rattle.std.specs.Written as written
 use Rattle.std.specs.declared.option.Option.{Option}
 use Rattle.std.specs.declared.option.Option.the-variants.{Some, None}

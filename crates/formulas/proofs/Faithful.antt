@@ -3,7 +3,7 @@ use mathlib.Core.Bool.{Bool, true, false, cond}
 use mathlib.Core.List.{List, [], _∷_, _++_, map}
 use mathlib.Core.Logic.{_↔_}
 use mathlib.Core.Path.{_≡_, refl, sym, ap, subst, _∙_}
-use Prim.Native.Nat.{ℕ, suc, _≤_}
+use Prim.Native.Nat.{ℕ}
 use native.Mathlib.Omega.{arith}
 use lib.ListN.{length}
 use Rattle.std.proofs.shelf.Lists.{append-assoc, append-nil, map-append}
@@ -18,12 +18,12 @@ use Rattle.formulas.specs.declared.fault.ReadFault.the-variants.{Text, Tables}
 use Rattle.formulas.specs.declared.token.Token.{Token}
 use Rattle.formulas.specs.Grammar.{Item, Out, items, term, stray, lone, finish, parse}
 use Rattle.formulas.specs.Layout.{fills}
-use Rattle.formulas.specs.Lines.{Sort, state}
+use Rattle.formulas.specs.Lines.{state}
 use Rattle.formulas.specs.Reading.{Slots, fits, placed, reading}
-use Rattle.formulas.specs.Spelling.{tokens, Spells, Allowed, Accepts, Numbers-fit, Coefficients-fit, Sums-short, Parts-short, Begin-term, Wrong, Refusal}
+use Rattle.formulas.specs.Spelling.{Spells, Allowed, Accepts, Numbers-fit, Coefficients-fit, Sums-short, Parts-short, Begin-term, Wrong, Refusal}
 use Rattle.formulas.specs.Trees.{Tree, leaf, conj, neg, dia, here, at-least, Products, none, product, spell, Of-sort, In-range, In-ranges, depth, lay}
 use Rattle.formulas.proofs.Written.{Toks, write, write-spell, told}
-use Rattle.formulas.proofs.Outcomes.{Limits, free, numbers, sizes, toks, Begins, Starts, Cause, Refused, Right}
+use Rattle.formulas.proofs.Outcomes.{Limits, free, numbers, sizes, toks, Begins, Starts, Cause, Right}
 use Rattle.formulas.proofs.Languages.{Said, Within}
 use Rattle.formulas.proofs.ReadTokens.{by-test}
 use Rattle.formulas.proofs.Readers.{readings}
@@ -53,9 +53,10 @@ mutual
   split-ranges none = (λ h. (tt, tt), λ h. tt)
   split-ranges (product c s ks) =
       let p = split-range s in
-      let q = split-ranges ks in
-      ( λ h. let a = p .0 (h .1) in let b = q .0 (h .2) in ((h .0, a .0, b .0), (a .1, b .1))
-      , λ h. (h .0 .0, p .1 (h .0 .1, h .1 .0), q .1 (h .0 .2, h .1 .1)) )
+      let q = split-ranges ks in (
+        λ h. let a = p .0 (h .1) in let b = q .0 (h .2) in ((h .0, a .0, b .0), (a .1, b .1)),
+        λ h. (h .0 .0, p .1 (h .0 .1, h .1 .0), q .1 (h .0 .2, h .1 .1)),
+      )
 
 allowed-within : (t : Tree) → Allowed t → (w : Limits) → Within 64 w t
 allowed-within t a free = tt
@@ -88,9 +89,10 @@ module _ (stop : ℕ) (ws : List Item) where
       → lone x rest ≡ Ok t → (toks ws ≡ map Some (spell t)) × Allowed t
   sound-lone t x front [] e said o =
       let same : x ≡ t = cc in
-      let h : (w : Limits) → Said 64 state w t (toks front ++ []) [] = λ w. subst (λ y. Said 64 state w y (toks front ++ []) []) same (said w []) in
-      ( toks-split ws front [] e ∙ h free .spelled ∙ sym (spell-write t)
-      , record { sorted = h free .sorted; ranged = split-range t .1 (h numbers .within, h sizes .within .0); shallow = h sizes .within .1 } )
+      let h : (w : Limits) → Said 64 state w t (toks front ++ []) [] = λ w. subst (λ y. Said 64 state w y (toks front ++ []) []) same (said w []) in (
+        toks-split ws front [] e ∙ h free .spelled ∙ sym (spell-write t),
+        record { sorted = h free .sorted; ranged = split-range t .1 (h numbers .within, h sizes .within .0); shallow = h sizes .within .1 },
+      )
   sound-lone t x front (i ∷ rest) e said o = absurd (let z : _≡_ {A = ℕ} 0 1 = cc in let y : ⊥ = omega arith in y)
 
   sound-of : (o : Out Tree) (t : Tree) → Right stop (Said 64 state) o ws → finish o ≡ Ok t → (toks ws ≡ map Some (spell t)) × Allowed t
@@ -141,12 +143,18 @@ module _ (stop : ℕ) (ws : List Item) where
   wrong-of u (i ∷ is) (Word g) c = (c .0, c .1)
   wrong-of u (i ∷ is) (Misplaced p) c =
       (c .0, c .1, λ b. c .2 (b .1) (b .0, [], spelling-said (b .0) (u ++ (i .1 ∷ b .1)) free (b .2) tt (b .3 ∙ append-assoc u (i .1 ∷ []) (b .1))))
-  wrong-of u (i ∷ is) (OutOfRange p) c =
-      ( c .0, c .1, begin-term (u ++ (i .1 ∷ [])) (c .2)
-      , λ b. c .3 (b .1) (b .0, [], spelling-said (b .0) (u ++ (i .1 ∷ b .1)) numbers (b .2 .0) (b .2 .1) (b .3 ∙ append-assoc u (i .1 ∷ []) (b .1))) )
-  wrong-of u (i ∷ is) (TooMany p) c =
-      ( c .0, c .1, begin-term (u ++ (i .1 ∷ [])) (c .2)
-      , λ b. c .3 (b .1) (b .0, [], spelling-said (b .0) (u ++ (i .1 ∷ b .1)) sizes (b .2 .0) (b .2 .1, b .2 .2) (b .3 ∙ append-assoc u (i .1 ∷ []) (b .1))) )
+  wrong-of u (i ∷ is) (OutOfRange p) c = (
+    c .0,
+    c .1,
+    begin-term (u ++ (i .1 ∷ [])) (c .2),
+    λ b. c .3 (b .1) (b .0, [], spelling-said (b .0) (u ++ (i .1 ∷ b .1)) numbers (b .2 .0) (b .2 .1) (b .3 ∙ append-assoc u (i .1 ∷ []) (b .1))),
+  )
+  wrong-of u (i ∷ is) (TooMany p) c = (
+    c .0,
+    c .1,
+    begin-term (u ++ (i .1 ∷ [])) (c .2),
+    λ b. c .3 (b .1) (b .0, [], spelling-said (b .0) (u ++ (i .1 ∷ b .1)) sizes (b .2 .0) (b .2 .1, b .2 .2) (b .3 ∙ append-assoc u (i .1 ∷ []) (b .1))),
+  )
 
   refused-of : (o : Out Tree) (f : GrammarFault) → Right stop (Said 64 state) o ws → finish o ≡ Err f → Refusal-of f
   refused-of (Ok x) f r e = refused-lone f (x .0) (r .0) (x .1) (r .1) (r .2) e
@@ -202,7 +210,7 @@ placed-err s f (Err g) e = cc
 placed-crowded : (s : Slots) (r : Result Tree GrammarFault) → placed s r ≡ Err Tables → (t : Tree) × (r ≡ Ok t) × (fits (fills (lay state 0 t)) s ≡ false)
 placed-crowded s (Ok x) e =
     by-test (λ o. o ≡ Err Tables → (t : Tree) × (_≡_ {A = Result Tree GrammarFault} (Ok x) (Ok t)) × (fits (fills (lay state 0 t)) s ≡ false))
-      (fits (fills (lay state 0 x)) s) (Ok x) (Err Tables) (λ _ k. never k) (λ h k. (x, refl, h)) e
+    (fits (fills (lay state 0 x)) s) (Ok x) (Err Tables) (λ _ k. never k) (λ h k. (x, refl, h)) e
   where
     never : {A : Type 0} → _≡_ {A = Result Tree ReadFault} (Ok x) (Err Tables) → A
     never k = absurd (let z : _≡_ {A = ℕ} 0 1 = cc in let y : ⊥ = omega arith in y)

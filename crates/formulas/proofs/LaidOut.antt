@@ -1,12 +1,12 @@
 -- What is laid out for an allowed tree is a formula.
-use mathlib.Core.Bool.{Bool, true, false, _&&_, not}
+use mathlib.Core.Bool.{Bool, true, false}
 use mathlib.Core.List.{List, [], _∷_, _++_}
 use mathlib.Core.Path.{_≡_, refl, sym, ap, subst, _∙_}
-use Prim.Native.Nat.{ℕ, zero, suc, _+_, _-_, _≤_, _<_}
+use Prim.Native.Nat.{ℕ, suc, _+_, _-_, _≤_, _<_}
 use native.Mathlib.Nat.{zero-add}
 use native.Mathlib.Omega.{arith}
 use lib.Dec.{eqb, ltb, leb}
-use lib.ListN.{length, getD, take, drop}
+use lib.ListN.{length, take, drop}
 use Rattle.std.proofs.shelf.Lists.{append-assoc, append-nil, length-append, drop-at, take-at}
 use Rattle.std.proofs.shelf.Tests.{and-from, eq-eqb, le-leb, lt-ltb}
 use Rattle.formulas.specs.declared.node.Node.{Node}
@@ -15,7 +15,7 @@ use Rattle.formulas.specs.Layout.{run, terms-in, alternatives-in, node, node-t
 use Rattle.formulas.specs.Lines.{Sort, state, dist, Line, constant, both, non, step, sum, sort, part}
 use Rattle.formulas.specs.Reading.{Slots, over, laid}
 use Rattle.formulas.specs.Spelling.{Allowed}
-use Rattle.formulas.specs.Stands.{isState, isDist, below-state, below-dist, run-ok, all-dist, terms-ok, step-ok, sum-ok, node-ok, terms-of, alternatives-of, walk, stands, formula-in}
+use Rattle.formulas.specs.Stands.{isState, isDist, below-state, below-dist, run-ok, all-dist, terms-ok, node-ok, terms-of, alternatives-of, walk, stands, formula-in}
 use Rattle.formulas.specs.Trees.{Tree, leaf, conj, neg, dia, here, at-least, Products, none, product, Of-sort, Of-products, In-range, In-ranges, coefficients, below, below-products, terms, lay, lay-products}
 
 -- node j is of the sort
@@ -309,18 +309,18 @@ node-table-length [] t a = refl
 node-table-length (l ∷ ls) t a = ap suc (node-table-length ls (t + length (terms-in l)) (a + length (alternatives-in l)))
 
 pub laid-opens : (s : Slots) (t : Tree) → Allowed t
-  → formula-in (fills (lay state 0 t)) (below t) 1 (laid (lay state 0 t) s .nodes) (laid (lay state 0 t) s .terms) (laid (lay state 0 t) s .alternatives) ≡ true
+    → formula-in (fills (lay state 0 t)) (below t) 1 (laid (lay state 0 t) s .nodes) (laid (lay state 0 t) s .terms) (laid (lay state 0 t) s .alternatives) ≡ true
 laid-opens s t a =
     let ls = lay state 0 t in
     let n = node-table-length ls 0 0 in
     and-from _ _
-      (and-from _ _ (over-holds (node-table 0 0 ls) (s .nodes) (length ls) n)
-        (and-from _ _ (over-holds (term-table ls) (s .terms) (length (term-table ls)) refl)
-          (over-holds (alternative-table ls) (s .alternatives) (length (alternative-table ls)) refl)))
-      (ap (λ k. stands k (take (length (term-table ls)) (over (term-table ls) (s .terms))) (take (length (alternative-table ls)) (over (alternative-table ls) (s .alternatives))) (below t) 1)
-          (over-front (node-table 0 0 ls) (s .nodes) (length ls) n)
-        ∙ ap (λ k. stands (node-table 0 0 ls) k (take (length (alternative-table ls)) (over (alternative-table ls) (s .alternatives))) (below t) 1)
-          (over-front (term-table ls) (s .terms) (length (term-table ls)) refl)
-        ∙ ap (λ k. stands (node-table 0 0 ls) (term-table ls) k (below t) 1)
-          (over-front (alternative-table ls) (s .alternatives) (length (alternative-table ls)) refl)
-        ∙ laid-stands t a)
+    (and-from _ _ (over-holds (node-table 0 0 ls) (s .nodes) (length ls) n)
+    (and-from _ _ (over-holds (term-table ls) (s .terms) (length (term-table ls)) refl)
+    (over-holds (alternative-table ls) (s .alternatives) (length (alternative-table ls)) refl)))
+    (ap (λ k. stands k (take (length (term-table ls)) (over (term-table ls) (s .terms))) (take (length (alternative-table ls)) (over (alternative-table ls) (s .alternatives))) (below t) 1)
+    (over-front (node-table 0 0 ls) (s .nodes) (length ls) n)
+    ∙ ap (λ k. stands (node-table 0 0 ls) k (take (length (alternative-table ls)) (over (alternative-table ls) (s .alternatives))) (below t) 1)
+    (over-front (term-table ls) (s .terms) (length (term-table ls)) refl)
+    ∙ ap (λ k. stands (node-table 0 0 ls) (term-table ls) k (below t) 1)
+    (over-front (alternative-table ls) (s .alternatives) (length (alternative-table ls)) refl)
+    ∙ laid-stands t a)

@@ -1,13 +1,13 @@
 -- The languages of the readers: terms, sums, quantities, products and numbers.
 use mathlib.Core.Bool.{true, false}
-use mathlib.Core.List.{List, [], _∷_, _++_}
+use mathlib.Core.List.{[], _∷_}
 use mathlib.Core.Path.{_≡_, refl, sym, ap, subst, _∙_}
-use Prim.Native.Nat.{ℕ, zero, suc, _+_, _-_, max, _≤_}
+use Prim.Native.Nat.{ℕ, zero, suc, _+_, _≤_}
 use native.Mathlib.Omega.{arith}
 use Rattle.std.specs.declared.option.Option.the-variants.{Some, None}
 use Rattle.formulas.specs.declared.token.Token.{Token}
 use Rattle.formulas.specs.declared.token.Token.the-variants.{Open, Close, True, False, And, Not, Dia, Here, Prob, AtLeast, Plus, Times, Numeral}
-use Rattle.formulas.specs.Lines.{Sort, state, dist}
+use Rattle.formulas.specs.Lines.{Sort, state}
 use Rattle.formulas.specs.Trees.{Tree, leaf, conj, neg, dia, here, at-least, Products, none, product, Of-sort, Of-products, count, coefficients, depth, sum-depth, products-depth}
 use Rattle.formulas.specs.Spelling.{Numbers-fit, Coefficients-fit, Sums-short, Parts-short}
 use Rattle.formulas.proofs.Written.{Toks, write, write-products, write-sum, shape, sum-shape, products-shape, told, products-told, sum-told}

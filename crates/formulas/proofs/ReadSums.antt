@@ -1,13 +1,13 @@
 -- The readers of a sum and of its products, where those of terms answer rightly.
-use mathlib.Core.Bool.{Bool, true, false, cond, _&&_}
+use mathlib.Core.Bool.{false, cond, _&&_}
 use mathlib.Core.Logic.{_⊎_, inl, inr, _↔_}
-use mathlib.Core.List.{List, [], _∷_, _++_}
+use mathlib.Core.List.{List, [], _∷_}
 use mathlib.Core.Path.{_≡_, refl, sym, ap, subst, _∙_}
-use Prim.Native.Nat.{ℕ, zero, suc, _+_, _-_, max, _≤_}
+use Prim.Native.Nat.{ℕ, zero, suc, _+_, _-_, _≤_}
 use native.Mathlib.Omega.{arith}
 use lib.Dec.{eqb, leb}
 use Rattle.std.proofs.shelf.Tests.{eqb-true, eqb-false, leb-true, leb-false}
-use Rattle.std.specs.declared.option.Option.the-variants.{Some, None}
+use Rattle.std.specs.declared.option.Option.the-variants.{Some}
 use Rattle.std.specs.declared.result.Result.the-variants.{Ok, Err}
 use Rattle.formulas.specs.declared.fault.GrammarFault.the-variants.{Misplaced, TooMany}
 use Rattle.formulas.specs.declared.token.Token.{Token}
@@ -17,13 +17,13 @@ use Rattle.formulas.specs.Grammar.{Item, Out, then, next, code, expect, number
 use Rattle.formulas.specs.Lines.{state}
 use Rattle.formulas.specs.Trees.{Tree, Products, none, product, Of-sort, Of-products, count, sum-depth, products-depth}
 use Rattle.formulas.proofs.Written.{Toks, write, write-products, write-sum, sum-shape, Sum-started, Sum-headed, products-shape, Products-started}
-use Rattle.formulas.proofs.Outcomes.{Limits, free, numbers, sizes, Lang, Begins, Right, Clear, right-behind, Seq, seq-begins, seq-clear, right-then, Done, right-done, done-some, Just, just-clear, just-some, One, Two, one-some, two-some, two-clear, right-next, right-misplaced, right-too-many}
+use Rattle.formulas.proofs.Outcomes.{Limits, free, numbers, sizes, Lang, Begins, Right, Clear, right-behind, Seq, seq-begins, seq-clear, right-then, Done, right-done, done-some, Just, just-clear, just-some, One, one-some, two-some, two-clear, right-next, right-misplaced, right-too-many}
 use Rattle.formulas.proofs.Languages.{In-bounds, Counted, counted-proper, counted-clear, Within, Said, said-proper, said-clear, Sum-within, Summed, summed-proper, Sum-body, sum-body-proper, Prob-within, Prob-said, prob-proper, prob-opens, prob-clear, Factor, Several-within, Several, several-proper, several-clear, several-opens}
 use Rattle.formulas.proofs.ReadTokens.{by-test, code-told, right-expect, right-one, right-two, right-number}
 
 -- the limits of products, and of those behind the first
 product-within : (room r more left : ℕ) → room ≡ suc r → (w : Limits) (c : ℕ) (s : Tree) (ks : Products)
-  → Several-within (suc more) left room w (product c s ks) ↔ (In-bounds 1 left w c × Prob-within r w s × Several-within more (left - c) room w ks)
+    → Several-within (suc more) left room w (product c s ks) ↔ (In-bounds 1 left w c × Prob-within r w s × Several-within more (left - c) room w ks)
 product-within room r more left e free c s ks = (λ h. (tt, tt, tt), λ h. tt)
 product-within room r more left e numbers c s ks =
     (λ h. ((h .0 .0, omega arith), h .0 .1, (h .0 .2, omega arith)), λ h. ((h .0 .0, h .1, h .2 .0), omega arith))
@@ -75,10 +75,10 @@ factor-clear : (room left : ℕ) → Clear (Factor room left)
 factor-clear room left = two-clear (Counted 1 left) (Prob-said room) (λ c s. (c, s)) (counted-clear 1 left) (prob-clear room)
 
 right-factor : (stop room : ℕ) (quantity : List Item → Out Tree) → ((l : List Item) → Right stop (Prob-said room) (quantity l) l) → (left : ℕ) (ws : List Item)
-  → Right stop (Factor room left) (factor stop quantity left ws) ws
+    → Right stop (Factor room left) (factor stop quantity left ws) ws
 right-factor stop room quantity h left ws =
     right-two stop (Counted 1 left) (Prob-said room) (λ c s. (c, s)) (counted-clear 1 left) (prob-clear room) (prob-proper room .some)
-      (number 1 left stop ws) quantity ws (right-number stop 1 left ws) h
+    (number 1 left stop ws) quantity ws (right-number stop 1 left ws) h
 
 -- what a product behind its `*` is
 record Factored (room left : ℕ) (w : Limits) (k : ℕ × Tree) (u v : Toks) : Type 0 where
@@ -336,29 +336,36 @@ quantity-closed stop ws =
     eqb-false 0 (code t) e (sym (ap code k))))) ws
 
 pub quantity-opened : (stop room : ℕ) (terms : List Item → Out Tree) → ((ws : List Item) → Right stop (Said room state) (terms ws) ws) → (ws : List Item)
-  → Right stop (Prob-said (suc room)) (then (expect Open stop ws) (λ _ r. then (expect Prob stop r) (λ _ q. then (terms q) (λ s l. closed stop s l)))) ws
+    → Right stop (Prob-said (suc room)) (then (expect Open stop ws) (λ _ r. then (expect Prob stop r) (λ _ q. then (terms q) (λ s l. closed stop s l)))) ws
 quantity-opened stop room terms rights ws =
     right-behind stop (Seq (Just {A = Unit {0}} Open tt) (λ _. inner)) (Prob-said (suc room)) [] ws _
-      (λ w b u v h.
-        let s = h .3 .3 .2 in
-        let e = h .3 .3 .3 in
-        let k : h .3 .3 .0 ≡ b = sym (e .0) in
-        record
-          { sorted = subst (λ x. Of-sort state x) k (s .sorted)
-          ; within = subst (λ x. Prob-within (suc room) w x) k (prob-within w (h .3 .3 .0) .1 (s .within))
-          ; spelled = h .2 .1 ∙ ap (λ l. Some Open ∷ l) (h .3 .2 .1
-              ∙ ap (λ l. Some Prob ∷ l) (s .spelled ∙ ap (λ l. write (h .3 .3 .0) l) (e .1) ∙ ap (λ x. write x (Some Close ∷ v)) k))
-          })
-      (λ w b u v h.
-        ( tt, Some Prob ∷ write b (Some Close ∷ v), (refl, h .spelled)
-        , ( tt, write b (Some Close ∷ v), (refl, refl)
-          , (b, Some Close ∷ v, record { sorted = h .sorted; within = prob-within w b .0 (h .within); spelled = refl }, (refl, refl)) ) ))
-      (right-then stop (Just {A = Unit {0}} Open tt) (λ _. inner) (just-clear {A = Unit {0}} Open tt) (expect Open stop ws) _ ws
-        (λ _. seq-begins (Just {A = Unit {0}} Prob tt) (λ _. inmost) [] (just-some {A = Unit {0}} Prob tt) (λ _. some))
-        (right-expect stop Open (λ e. omega arith) ws)
-        (λ _ r. right-then stop (Just {A = Unit {0}} Prob tt) (λ _. inmost) (just-clear {A = Unit {0}} Prob tt) (expect Prob stop r) _ r
-          (λ _. some) (right-expect stop Prob (λ e. omega arith) r)
-          (λ _ q. right-one stop (Said room state) (λ s. s) (said-clear room state) (terms q) q (rights q))))
+    (λ w b u v h.
+    let s = h .3 .3 .2 in
+    let e = h .3 .3 .3 in
+    let k : h .3 .3 .0 ≡ b = sym (e .0) in
+    record {
+      sorted = subst (λ x. Of-sort state x) k (s .sorted);
+      within = subst (λ x. Prob-within (suc room) w x) k (prob-within w (h .3 .3 .0) .1 (s .within));
+      spelled = h .2 .1 ∙ ap (λ l. Some Open ∷ l) (h .3 .2 .1
+          ∙ ap (λ l. Some Prob ∷ l) (s .spelled ∙ ap (λ l. write (h .3 .3 .0) l) (e .1) ∙ ap (λ x. write x (Some Close ∷ v)) k));
+    })
+    (λ w b u v h. (
+      tt,
+      Some Prob ∷ write b (Some Close ∷ v),
+      (refl, h .spelled),
+      (
+        tt,
+        write b (Some Close ∷ v),
+        (refl, refl),
+        (b, Some Close ∷ v, record { sorted = h .sorted; within = prob-within w b .0 (h .within); spelled = refl }, (refl, refl)),
+      ),
+    ))
+    (right-then stop (Just {A = Unit {0}} Open tt) (λ _. inner) (just-clear {A = Unit {0}} Open tt) (expect Open stop ws) _ ws
+    (λ _. seq-begins (Just {A = Unit {0}} Prob tt) (λ _. inmost) [] (just-some {A = Unit {0}} Prob tt) (λ _. some))
+    (right-expect stop Open (λ e. omega arith) ws)
+    (λ _ r. right-then stop (Just {A = Unit {0}} Prob tt) (λ _. inmost) (just-clear {A = Unit {0}} Prob tt) (expect Prob stop r) _ r
+    (λ _. some) (right-expect stop Prob (λ e. omega arith) r)
+    (λ _ q. right-one stop (Said room state) (λ s. s) (said-clear room state) (terms q) q (rights q))))
   where
     inmost : Lang Tree
     inmost = One (Said room state) (λ s. s)
@@ -376,9 +383,9 @@ quantity-opened stop room terms rights ws =
 
 -- a product behind its opening parenthesis, where another may open
 pub element-opened : (stop r left : ℕ) (quantity : List Item → Out Tree) → ((ws : List Item) → Right stop (Prob-said r) (quantity ws) ws) → (ws : List Item)
-  → Right stop (Element r left) (then (expect Times stop ws) (λ _ l. factor stop quantity left l)) ws
+    → Right stop (Element r left) (then (expect Times stop ws) (λ _ l. factor stop quantity left l)) ws
 element-opened stop r left quantity rights ws =
     right-then stop (Just {A = Unit {0}} Times tt) (λ _. Factor r left) (just-clear {A = Unit {0}} Times tt) (expect Times stop ws) _ ws
-      (λ _. two-some (Counted 1 left) (Prob-said r) (λ c s. (c, s)) (counted-proper 1 left .some) (prob-proper r .some))
-      (right-expect stop Times (λ e. omega arith) ws)
-      (λ _ l. right-factor stop r quantity rights left l)
+    (λ _. two-some (Counted 1 left) (Prob-said r) (λ c s. (c, s)) (counted-proper 1 left .some) (prob-proper r .some))
+    (right-expect stop Times (λ e. omega arith) ws)
+    (λ _ l. right-factor stop r quantity rights left l)

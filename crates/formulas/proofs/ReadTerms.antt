@@ -1,12 +1,12 @@
 -- The readers of a term, where those of its parts answer rightly.
 use mathlib.Core.Bool.{Bool, true, false}
 use mathlib.Core.Logic.{_↔_}
-use mathlib.Core.List.{List, [], _∷_, _++_}
+use mathlib.Core.List.{List, [], _∷_}
 use mathlib.Core.Path.{_≡_, refl, sym, ap, subst, _∙_}
-use Prim.Native.Nat.{ℕ, suc, max, _≤_}
+use Prim.Native.Nat.{ℕ, suc}
 use native.Mathlib.Omega.{arith}
-use Rattle.std.specs.declared.option.Option.the-variants.{Some, None}
-use Rattle.std.specs.declared.result.Result.the-variants.{Ok, Err}
+use Rattle.std.specs.declared.option.Option.the-variants.{Some}
+use Rattle.std.specs.declared.result.Result.the-variants.{Err}
 use Rattle.formulas.specs.declared.fault.GrammarFault.the-variants.{Misplaced}
 use Rattle.formulas.specs.declared.token.Token.{Token}
 use Rattle.formulas.specs.declared.token.Token.the-variants.{Open, Close, True, False, And, Not, Dia, Here, Prob, AtLeast, Plus, Times, Numeral}
@@ -79,31 +79,32 @@ module _ (stop room : ℕ) (sub : Sort → List Item → Out Tree) (sums : List 
     (adds : (l : List Item) → Right stop (Summed room) (sums l) l) where
   -- a term of the sort σ with one part, of the sort τ
   right-only : (σ τ : Sort) (t : Token) (make : Tree → Tree) (sorts : (x : Tree) → Of-sort σ (make x) ↔ Of-sort τ x)
-    (limits : (w : Limits) (x : Tree) → Within (suc room) w (make x) ↔ Within room w x)
-    (words : (x : Tree) (v : Toks) → Some Open ∷ Some t ∷ write x (Some Close ∷ v) ≡ write (make x) v)
-    (shaped : (b : Tree) (u v : Toks) → Some Open ∷ Some t ∷ u ≡ write b v → (x : Tree) × (b ≡ make x) × (u ≡ write x (Some Close ∷ v)))
-    (p : ℕ) (ws : List Item) → Right stop (Body room σ) (then (sub τ ws) (λ a r. closed stop (make a) r)) ((p, Some t) ∷ ws)
+      (limits : (w : Limits) (x : Tree) → Within (suc room) w (make x) ↔ Within room w x)
+      (words : (x : Tree) (v : Toks) → Some Open ∷ Some t ∷ write x (Some Close ∷ v) ≡ write (make x) v)
+      (shaped : (b : Tree) (u v : Toks) → Some Open ∷ Some t ∷ u ≡ write b v → (x : Tree) × (b ≡ make x) × (u ≡ write x (Some Close ∷ v)))
+      (p : ℕ) (ws : List Item) → Right stop (Body room σ) (then (sub τ ws) (λ a r. closed stop (make a) r)) ((p, Some t) ∷ ws)
   right-only σ τ t make sorts limits words shaped p ws =
       right-behind stop (One (Said room τ) make) (Body room σ) ((p, Some t) ∷ []) ws _
-        (λ w b u v h.
-          let x = h .2 in
-          let e = h .3 in
-          subst (λ c. Said (suc room) σ w c (Some Open ∷ Some t ∷ u) v) (sym (e .0)) (record
-            { sorted = sorts (h .0) .1 (x .sorted)
-            ; within = limits w (h .0) .1 (x .within)
-            ; spelled = ap (λ l. Some Open ∷ Some t ∷ l) (x .spelled ∙ ap (λ l. write (h .0) l) (e .1)) ∙ words (h .0) v
-            }))
-        (λ w b u v h.
-          let k = shaped b u v (h .spelled) in
-          ( k .0
-          , Some Close ∷ v
-          , record
-              { sorted = sorts (k .0) .0 (subst (λ c. Of-sort σ c) (k .1) (h .sorted))
-              ; within = limits w (k .0) .0 (subst (λ c. Within (suc room) w c) (k .1) (h .within))
-              ; spelled = k .2
-              }
-          , (k .1, refl) ))
-        (right-one stop (Said room τ) make (said-clear room τ) (sub τ ws) ws (subs τ ws))
+      (λ w b u v h.
+      let x = h .2 in
+      let e = h .3 in
+      subst (λ c. Said (suc room) σ w c (Some Open ∷ Some t ∷ u) v) (sym (e .0)) (record {
+        sorted = sorts (h .0) .1 (x .sorted);
+        within = limits w (h .0) .1 (x .within);
+        spelled = ap (λ l. Some Open ∷ Some t ∷ l) (x .spelled ∙ ap (λ l. write (h .0) l) (e .1)) ∙ words (h .0) v;
+      }))
+      (λ w b u v h.
+      let k = shaped b u v (h .spelled) in (
+        k .0,
+        Some Close ∷ v,
+        record {
+          sorted = sorts (k .0) .0 (subst (λ c. Of-sort σ c) (k .1) (h .sorted));
+          within = limits w (k .0) .0 (subst (λ c. Within (suc room) w c) (k .1) (h .within));
+          spelled = k .2;
+        },
+        (k .1, refl),
+      ))
+      (right-one stop (Said room τ) make (said-clear room τ) (sub τ ws) ws (subs τ ws))
 
   right-not : (σ : Sort) (p : ℕ) (ws : List Item) → Right stop (Body room σ) (then (sub σ ws) (λ a r. closed stop (neg a) r)) ((p, Some Not) ∷ ws)
   right-not σ p ws =
@@ -114,75 +115,78 @@ module _ (stop room : ℕ) (sub : Sort → List Item → Out Tree) (sums : List 
       right-only state dist Here (λ x. here x) (λ x. (λ h. h, λ h. h)) (λ w x. here-within room w x) (λ x v. refl) (λ b u v e. shape b (Some Open ∷ Some Here ∷ u) v e) p ws
 
   right-and : (σ : Sort) (p : ℕ) (ws : List Item)
-    → Right stop (Body room σ) (then (sub σ ws) (λ a r. then (sub σ r) (λ b s. closed stop (conj a b) s))) ((p, Some And) ∷ ws)
+      → Right stop (Body room σ) (then (sub σ ws) (λ a r. then (sub σ r) (λ b s. closed stop (conj a b) s))) ((p, Some And) ∷ ws)
   right-and σ p ws =
       right-behind stop (Two (Said room σ) (Said room σ) (λ a b. conj a b)) (Body room σ) ((p, Some And) ∷ []) ws _
-        (λ w b u v h.
-          let x = h .2 in
-          let y = h .3 .2 in
-          let e = h .3 .3 in
-          subst (λ c. Said (suc room) σ w c (Some Open ∷ Some And ∷ u) v) (sym (e .0)) (record
-            { sorted = (x .sorted, y .sorted)
-            ; within = conj-within room w (h .0) (h .3 .0) .1 (x .within, y .within)
-            ; spelled = ap (λ l. Some Open ∷ Some And ∷ l) (x .spelled ∙ ap (λ l. write (h .0) l) (y .spelled ∙ ap (λ l. write (h .3 .0) l) (e .1)))
-            }))
-        (λ w b u v h.
-          let k = shape b (Some Open ∷ Some And ∷ u) v (h .spelled) in
-          let s : Of-sort σ (conj (k .0) (k .1)) = subst (λ c. Of-sort σ c) (k .2) (h .sorted) in
-          let d = conj-within room w (k .0) (k .1) .0 (subst (λ c. Within (suc room) w c) (k .2) (h .within)) in
-          ( k .0
-          , write (k .1) (Some Close ∷ v)
-          , record { sorted = s .0; within = d .0; spelled = k .3 }
-          , (k .1, Some Close ∷ v, record { sorted = s .1; within = d .1; spelled = refl }, (k .2, refl)) ))
-        (right-two stop (Said room σ) (Said room σ) (λ a b. conj a b) (said-clear room σ) (said-clear room σ) (said-proper room σ .some) (sub σ ws) (sub σ) ws (subs σ ws) (subs σ))
+      (λ w b u v h.
+      let x = h .2 in
+      let y = h .3 .2 in
+      let e = h .3 .3 in
+      subst (λ c. Said (suc room) σ w c (Some Open ∷ Some And ∷ u) v) (sym (e .0)) (record {
+        sorted = (x .sorted, y .sorted);
+        within = conj-within room w (h .0) (h .3 .0) .1 (x .within, y .within);
+        spelled = ap (λ l. Some Open ∷ Some And ∷ l) (x .spelled ∙ ap (λ l. write (h .0) l) (y .spelled ∙ ap (λ l. write (h .3 .0) l) (e .1)));
+      }))
+      (λ w b u v h.
+      let k = shape b (Some Open ∷ Some And ∷ u) v (h .spelled) in
+      let s : Of-sort σ (conj (k .0) (k .1)) = subst (λ c. Of-sort σ c) (k .2) (h .sorted) in
+      let d = conj-within room w (k .0) (k .1) .0 (subst (λ c. Within (suc room) w c) (k .2) (h .within)) in (
+        k .0,
+        write (k .1) (Some Close ∷ v),
+        record { sorted = s .0; within = d .0; spelled = k .3 },
+        (k .1, Some Close ∷ v, record { sorted = s .1; within = d .1; spelled = refl }, (k .2, refl)),
+      ))
+      (right-two stop (Said room σ) (Said room σ) (λ a b. conj a b) (said-clear room σ) (said-clear room σ) (said-proper room σ .some) (sub σ ws) (sub σ) ws (subs σ ws) (subs σ))
 
   right-dia : (p : ℕ) (ws : List Item)
-    → Right stop (Body room state) (then (number 0 31 stop ws) (λ n r. then (sub dist r) (λ d s. closed stop (dia n d) s))) ((p, Some Dia) ∷ ws)
+      → Right stop (Body room state) (then (number 0 31 stop ws) (λ n r. then (sub dist r) (λ d s. closed stop (dia n d) s))) ((p, Some Dia) ∷ ws)
   right-dia p ws =
       right-behind stop (Two (Counted 0 31) (Said room dist) (λ n d. dia n d)) (Body room state) ((p, Some Dia) ∷ []) ws _
-        (λ w b u v h.
-          let n = h .2 in
-          let x = h .3 .2 in
-          let e = h .3 .3 in
-          subst (λ c. Said (suc room) state w c (Some Open ∷ Some Dia ∷ u) v) (sym (e .0)) (record
-            { sorted = x .sorted
-            ; within = dia-within room w (h .0) (h .3 .0) .1 (n .0, x .within)
-            ; spelled = ap (λ l. Some Open ∷ Some Dia ∷ l) (n .1 ∙ ap (λ l. Some (Numeral (h .0)) ∷ l) (x .spelled ∙ ap (λ l. write (h .3 .0) l) (e .1)))
-            }))
-        (λ w b u v h.
-          let k = shape b (Some Open ∷ Some Dia ∷ u) v (h .spelled) in
-          let s : Of-sort state (dia (k .0) (k .1)) = subst (λ c. Of-sort state c) (k .2) (h .sorted) in
-          let d = dia-within room w (k .0) (k .1) .0 (subst (λ c. Within (suc room) w c) (k .2) (h .within)) in
-          ( k .0
-          , write (k .1) (Some Close ∷ v)
-          , (d .0, k .3)
-          , (k .1, Some Close ∷ v, record { sorted = s; within = d .1; spelled = refl }, (k .2, refl)) ))
-        (right-two stop (Counted 0 31) (Said room dist) (λ n d. dia n d) (counted-clear 0 31) (said-clear room dist) (said-proper room dist .some)
-          (number 0 31 stop ws) (sub dist) ws (right-number stop 0 31 ws) (subs dist))
+      (λ w b u v h.
+      let n = h .2 in
+      let x = h .3 .2 in
+      let e = h .3 .3 in
+      subst (λ c. Said (suc room) state w c (Some Open ∷ Some Dia ∷ u) v) (sym (e .0)) (record {
+        sorted = x .sorted;
+        within = dia-within room w (h .0) (h .3 .0) .1 (n .0, x .within);
+        spelled = ap (λ l. Some Open ∷ Some Dia ∷ l) (n .1 ∙ ap (λ l. Some (Numeral (h .0)) ∷ l) (x .spelled ∙ ap (λ l. write (h .3 .0) l) (e .1)));
+      }))
+      (λ w b u v h.
+      let k = shape b (Some Open ∷ Some Dia ∷ u) v (h .spelled) in
+      let s : Of-sort state (dia (k .0) (k .1)) = subst (λ c. Of-sort state c) (k .2) (h .sorted) in
+      let d = dia-within room w (k .0) (k .1) .0 (subst (λ c. Within (suc room) w c) (k .2) (h .within)) in (
+        k .0,
+        write (k .1) (Some Close ∷ v),
+        (d .0, k .3),
+        (k .1, Some Close ∷ v, record { sorted = s; within = d .1; spelled = refl }, (k .2, refl)),
+      ))
+      (right-two stop (Counted 0 31) (Said room dist) (λ n d. dia n d) (counted-clear 0 31) (said-clear room dist) (said-proper room dist .some)
+      (number 0 31 stop ws) (sub dist) ws (right-number stop 0 31 ws) (subs dist))
 
   right-at-least : (p : ℕ) (ws : List Item)
-    → Right stop (Body room dist) (then (sums ws) (λ ks r. then (number 0 1000 stop r) (λ n s. closed stop (at-least ks n) s))) ((p, Some AtLeast) ∷ ws)
+      → Right stop (Body room dist) (then (sums ws) (λ ks r. then (number 0 1000 stop r) (λ n s. closed stop (at-least ks n) s))) ((p, Some AtLeast) ∷ ws)
   right-at-least p ws =
       right-behind stop (Two (Summed room) (Counted 0 1000) (λ ks n. at-least ks n)) (Body room dist) ((p, Some AtLeast) ∷ []) ws _
-        (λ w b u v h.
-          let x = h .2 in
-          let n = h .3 .2 in
-          let e = h .3 .3 in
-          subst (λ c. Said (suc room) dist w c (Some Open ∷ Some AtLeast ∷ u) v) (sym (e .0)) (record
-            { sorted = x .sorted
-            ; within = at-least-within room w (h .0) (h .3 .0) .1 (x .within, n .0)
-            ; spelled = ap (λ l. Some Open ∷ Some AtLeast ∷ l) (x .spelled ∙ ap (λ l. write-sum (h .0) l) (n .1 ∙ ap (λ l. Some (Numeral (h .3 .0)) ∷ l) (e .1)))
-            }))
-        (λ w b u v h.
-          let k = shape b (Some Open ∷ Some AtLeast ∷ u) v (h .spelled) in
-          let s : Of-sort dist (at-least (k .0) (k .1)) = subst (λ c. Of-sort dist c) (k .2) (h .sorted) in
-          let d = at-least-within room w (k .0) (k .1) .0 (subst (λ c. Within (suc room) w c) (k .2) (h .within)) in
-          ( k .0
-          , Some (Numeral (k .1)) ∷ Some Close ∷ v
-          , record { sorted = s; within = d .0; spelled = k .3 }
-          , (k .1, Some Close ∷ v, (d .1, refl), (k .2, refl)) ))
-        (right-two stop (Summed room) (Counted 0 1000) (λ ks n. at-least ks n) (summed-clear room) (counted-clear 0 1000) (counted-proper 0 1000 .some)
-          (sums ws) (number 0 1000 stop) ws (adds ws) (right-number stop 0 1000))
+      (λ w b u v h.
+      let x = h .2 in
+      let n = h .3 .2 in
+      let e = h .3 .3 in
+      subst (λ c. Said (suc room) dist w c (Some Open ∷ Some AtLeast ∷ u) v) (sym (e .0)) (record {
+        sorted = x .sorted;
+        within = at-least-within room w (h .0) (h .3 .0) .1 (x .within, n .0);
+        spelled = ap (λ l. Some Open ∷ Some AtLeast ∷ l) (x .spelled ∙ ap (λ l. write-sum (h .0) l) (n .1 ∙ ap (λ l. Some (Numeral (h .3 .0)) ∷ l) (e .1)));
+      }))
+      (λ w b u v h.
+      let k = shape b (Some Open ∷ Some AtLeast ∷ u) v (h .spelled) in
+      let s : Of-sort dist (at-least (k .0) (k .1)) = subst (λ c. Of-sort dist c) (k .2) (h .sorted) in
+      let d = at-least-within room w (k .0) (k .1) .0 (subst (λ c. Within (suc room) w c) (k .2) (h .within)) in (
+        k .0,
+        Some (Numeral (k .1)) ∷ Some Close ∷ v,
+        record { sorted = s; within = d .0; spelled = k .3 },
+        (k .1, Some Close ∷ v, (d .1, refl), (k .2, refl)),
+      ))
+      (right-two stop (Summed room) (Counted 0 1000) (λ ks n. at-least ks n) (summed-clear room) (counted-clear 0 1000) (counted-proper 0 1000 .some)
+      (sums ws) (number 0 1000 stop) ws (adds ws) (right-number stop 0 1000))
 
   no-head : (σ : Sort) (p : ℕ) (t : Token) (rest : List Item) → ((b : Tree) (u v : Toks) → Headed t b u v → Of-sort σ b → ⊥)
       → Right stop (Body room σ) (Err (Misplaced p)) ((p, Some t) ∷ rest)

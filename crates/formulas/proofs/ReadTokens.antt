@@ -1,12 +1,12 @@
 -- Readers of one token, of a number, and of parts with a `)` behind them.
 use mathlib.Core.Bool.{Bool, true, false, cond, _&&_}
-use mathlib.Core.List.{List, [], _∷_, _++_}
-use mathlib.Core.Path.{_≡_, refl, sym, ap, subst, _∙_}
+use mathlib.Core.List.{List, [], _∷_}
+use mathlib.Core.Path.{_≡_, refl, sym, ap, _∙_}
 use Prim.Native.Nat.{ℕ, _≤_}
 use native.Mathlib.Omega.{arith}
 use lib.Dec.{eqb, leb}
 use Rattle.std.proofs.shelf.Tests.{eqb-true, eq-eqb, leb-true, le-leb, and-parts, and-from, both-ways}
-use Rattle.std.specs.declared.option.Option.the-variants.{Some, None}
+use Rattle.std.specs.declared.option.Option.the-variants.{Some}
 use Rattle.std.specs.declared.result.Result.the-variants.{Ok, Err}
 use Rattle.formulas.specs.declared.fault.GrammarFault.the-variants.{Misplaced, OutOfRange}
 use Rattle.formulas.specs.declared.token.Token.{Token}
@@ -110,11 +110,11 @@ module _ (stop : ℕ) where
 
   -- a part and a `)`; two parts and a `)`
   pub right-one : {X B : Type 0} (L : Lang X) (make : X → B) → Clear L → (o : Out X) (ws : List Item) → Right stop L o ws
-    → Right stop (One L make) (then o (λ x r. closed stop (make x) r)) ws
+      → Right stop (One L make) (then o (λ x r. closed stop (make x) r)) ws
   right-one L make clear o ws h =
       right-then stop L (λ x. Just Close (make x)) clear o _ ws (λ x. just-some Close (make x)) h (λ x r. right-closed (make x) r)
 
   pub right-two : {X Y B : Type 0} (L : Lang X) (M : Lang Y) (make : X → Y → B) → Clear L → Clear M → Begins M [] → (o : Out X) (f : List Item → Out Y) (ws : List Item)
-    → Right stop L o ws → ((l : List Item) → Right stop M (f l) l) → Right stop (Two L M make) (then o (λ x r. then (f r) (λ y s. closed stop (make x y) s))) ws
+      → Right stop L o ws → ((l : List Item) → Right stop M (f l) l) → Right stop (Two L M make) (then o (λ x r. then (f r) (λ y s. closed stop (make x y) s))) ws
   right-two L M make clear clear′ some o f ws h k =
       right-then stop L (λ x. One M (make x)) clear o _ ws (λ x. one-some M (make x) some) h (λ x r. right-one M (make x) clear′ (f r) r (k r))

@@ -1,5 +1,5 @@
 -- The law of reading: which texts are accepted, and what each refusal of a text means.
-use mathlib.Core.Bool.{Bool, true, false}
+use mathlib.Core.Bool.{true, false}
 use mathlib.Core.List.{List, [], _∷_, _++_, map}
 use mathlib.Core.Logic.{_↔_}
 use mathlib.Core.Path.{_≡_}
@@ -112,16 +112,19 @@ abbrev mutual
   Parts-short none = Unit {0}
   Parts-short (product c s ks) = Sums-short s × Parts-short ks
 
--- the words begin the spelling of some state term; of one with numbers in their ranges; of one whose sums and depth are
+-- the words begin the spelling of some tree that P holds of
 abbrev pub Begin : (Tree → Type 0) → List (Option Token) → Type 0
 Begin P ws = (t : Tree) × (more : List (Option Token)) × P t × (map Some (spell t) ≡ ws ++ more)
 
+-- of some state term, whatever its numbers, sums and depth
 abbrev pub Begin-term : List (Option Token) → Type 0
 Begin-term ws = Begin (λ t. Of-sort state t) ws
 
+-- of one whose numbers are in their ranges
 abbrev pub Begin-fit : List (Option Token) → Type 0
 Begin-fit ws = Begin (λ t. Of-sort state t × Numbers-fit t) ws
 
+-- of one whose sums have at most eight terms, and in which at most 64 parentheses are open at a time
 abbrev pub Begin-small : List (Option Token) → Type 0
 Begin-small ws = Begin (λ t. Of-sort state t × Sums-short t × (depth t ≤ 64)) ws
 
@@ -133,14 +136,14 @@ Wrong stop ws [] f = (f ≡ Misplaced stop) × ((t : Tree) → Of-sort state t �
 Wrong stop ws (i ∷ back) (Word g) = (i .0 ≡ g .place) × (i .1 ≡ None)
 -- no state term goes on with the next word
 Wrong stop ws (i ∷ back) (Misplaced p) = (i .0 ≡ p) × ((t : Token) × (i .1 ≡ Some t)) × (Begin-term (ws ++ (i .1 ∷ [])) → ⊥)
--- one does, and none whose numbers are in their ranges
+-- one does, and none with its numbers in their ranges
 Wrong stop ws (i ∷ back) (OutOfRange p) =
     (i .0 ≡ p) × ((n : ℕ) × (i .1 ≡ Some (Numeral n))) × Begin-term (ws ++ (i .1 ∷ [])) × (Begin-fit (ws ++ (i .1 ∷ [])) → ⊥)
--- one does, and none whose sums have at most eight terms and in which at most 64 parentheses are open at a time
+-- one does, and none with short sums and few open parentheses
 Wrong stop ws (i ∷ back) (TooMany p) =
     (i .0 ≡ p) × (i .1 ≡ Some Open) × Begin-term (ws ++ (i .1 ∷ [])) × (Begin-small (ws ++ (i .1 ∷ [])) → ⊥)
 
--- a text is refused at the first word behind which something is wrong
+-- where a text is refused: words that begin a state term, and what is wrong behind them
 pub record Refusal (text : List ℕ) (f : GrammarFault) : Type 0 where
   pub front : List Item
   pub back : List Item
@@ -151,17 +154,17 @@ pub record Refusal (text : List ℕ) (f : GrammarFault) : Type 0 where
 pub record Reading-law : Type 0 where
   pub sound : (text : List ℕ) (s : Slots) (t : Tree) → reading text s ≡ Ok t → Accepts text s t
   pub complete : (text : List ℕ) (s : Slots) (t : Tree) → Accepts text s t → reading text s ≡ Ok t
-  -- by their bytes
+  -- each token has one word, and a text spells a tree exactly when its words are those of the tree's tokens
   pub worded : (t : Token) → Small t → tokenOf (word t) ≡ Some t
   pub wording : (w : List ℕ) (t : Token) → Small t → tokenOf w ≡ Some t → w ≡ word t
   pub spells-bytes : (text : List ℕ) (t : Tree) → In-range t → Spells text t ↔ (parts text ≡ map word (spell t))
   pub refused : (text : List ℕ) (s : Slots) (f : GrammarFault) → reading text s ≡ Err (Text f) → Refusal text f
   -- the tables are too short for a text only if nothing else is wrong with it
   pub crowded : (text : List ℕ) (s : Slots) → reading text s ≡ Err Tables
-    → (t : Tree) × Spells text t × Allowed t × (fits (fills (lay state 0 t)) s ≡ false)
+      → (t : Tree) × Spells text t × Allowed t × (fits (fills (lay state 0 t)) s ≡ false)
   -- two trees never share a spelling
   pub unique : (x y : Tree) → spell x ≡ spell y → x ≡ y
   -- what is laid out is a formula, and so are the tables that hold it, whatever they held before
   pub stands-laid : (t : Tree) → Allowed t → stands (node-table 0 0 (lay state 0 t)) (term-table (lay state 0 t)) (alternative-table (lay state 0 t)) (below t) 1 ≡ true
   pub opens : (s : Slots) (t : Tree) → Allowed t
-    → formula-in (fills (lay state 0 t)) (below t) 1 (laid (lay state 0 t) s .nodes) (laid (lay state 0 t) s .terms) (laid (lay state 0 t) s .alternatives) ≡ true
+      → formula-in (fills (lay state 0 t)) (below t) 1 (laid (lay state 0 t) s .nodes) (laid (lay state 0 t) s .terms) (laid (lay state 0 t) s .alternatives) ≡ true
