@@ -166,15 +166,15 @@ module _ (text : List ℕ) where
   reads : Right (length text) (Said 64 state) (term (length text) 64 state (items text 0)) (items text 0)
   reads = readings (length text) 64 .terms state (items text 0)
 
-  parsed-sound : (t : Tree) → parse text ≡ Ok t → Spells text t × Allowed t
+  pub parsed-sound : (t : Tree) → parse text ≡ Ok t → Spells text t × Allowed t
   unfolding parse
   parsed-sound t e = sound-of (length text) (items text 0) _ t reads e
 
-  parsed-complete : (t : Tree) → Spells text t → Allowed t → parse text ≡ Ok t
+  pub parsed-complete : (t : Tree) → Spells text t → Allowed t → parse text ≡ Ok t
   unfolding parse
   parsed-complete t e a = complete-of (length text) (items text 0) _ t reads e a
 
-  parsed-refused : (f : GrammarFault) → parse text ≡ Err f → Refusal text f
+  pub parsed-refused : (f : GrammarFault) → parse text ≡ Err f → Refusal text f
   unfolding parse
   parsed-refused f e =
       let r = refused-of (length text) (items text 0) _ f reads e in
