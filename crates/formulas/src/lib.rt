@@ -3,5 +3,6 @@ pub mod draft;
 pub mod fault;
 pub mod node;
 pub mod stands;
+pub mod spelling;
 pub mod token;
 pub mod words;
