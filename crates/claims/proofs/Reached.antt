@@ -18,7 +18,7 @@ use Rattle.formulas.specs.Lines.{part, entries}
 use Rattle.formulas.specs.Truths.{Truth, any, of-node}
 use Rattle.claims.specs.declared.tables.Tables.{Tables}
 use Rattle.claims.specs.Verdicts.{byte}
-use Rattle.claims.specs.Rows.{lit-row, Mark, marked, parts, no-node, Parted, Spread, settled, row-byte, Filling, Cleared, Clear}
+use Rattle.claims.specs.Rows.{lit-row, Mark, marked, parts, no-node, Parted, Spread, Reached, settled, row-byte, Filling, Cleared, Clear}
 use Rattle.claims.specs.Boards.{truths-in, Sits, Agrees, Board}
 use Rattle.claims.proofs.Anys.{any-same}
 use Rattle.claims.proofs.Marks.{marked-all, marked-other}
@@ -60,37 +60,44 @@ module _ (M : Meaning) (t : Tables) (sits : Sits M t) (mv : Move) (within : All 
 pub sliced : {X : Type 0} (xs : List X) (r : Run) → take (r .first + r .count - r .first) (drop (r .first) xs) ≡ entries xs r
 sliced xs r = ap (λ k. take k (drop (r .first) xs)) (omega arith)
 
--- from a clear row, the nodes wanted are marked, and then all that they reach, from low to high
-module _ (ns : List Node) (wanted old spread : List ℕ) (upto start low high : ℕ) (clear : Clear upto old) (long : upto ≤ length old) (top : high ≤ upto) (around : All (λ d. (start ≤ d) × (d < high)) wanted) (s : Spread ns low start low high (marked old wanted) spread) where
-  outside : (k : ℕ) → (k < low) → getD (marked old wanted) k 0 ≡ getD old k 0
-  outside k l = marked-other wanted old k (all-weaker (λ d. (start ≤ d) × (d < high)) (λ d. k ≢ d) (λ d a. omega (arith, a .0, s .lower)) wanted around)
+-- from a clear row, the nodes wanted are marked, and then what they are made of
+module _ (ns : List Node) (wanted old first row : List ℕ) (upto start low high : ℕ) (clear : Clear upto old) (long : upto ≤ length old) (top : high ≤ upto) (ordered : start ≤ high) (around : All (λ d. (start ≤ d) × (d < high)) wanted) (e : first ≡ marked old wanted) (s : Spread ns low start low high first row) where
+  apart : (k : ℕ) → ((d : ℕ) → start ≤ d → d < high → k ≢ d) → getD first k 0 ≡ getD old k 0
+  apart k ne = ap (λ r. getD r k 0) e ∙ marked-other wanted old k (all-weaker (λ d. (start ≤ d) × (d < high)) (λ d. k ≢ d) (λ d a. ne d (a .0) (a .1)) wanted around)
 
-  pub reach-bare : low ≤ high → (k : ℕ) → k < low → Mark spread k → ⊥
-  reach-bare h k l m = let z = s .below k l ∙ outside k l ∙ clear k (omega arith) in omega arith
+  under : (k : ℕ) → k < low → getD row k 0 ≡ getD old k 0
+  under k l = s .below k l ∙ apart k (λ d a b. omega (arith, s .lower))
 
-  pub reach-closed : low ≤ high → (k : ℕ) → k < high → Mark spread k → All (Mark spread) (parts (getD ns k no-node))
-  reach-closed h k l m =
-      ⊎-elim
-      (λ lo. absurd (reach-bare h k lo m))
-      (λ hi. s .closed k hi l m)
-      (cases-lt k low)
+  unmarked : (k : ℕ) → k < low → Mark row k → ⊥
+  unmarked k l m = let z = under k l ∙ clear k (omega (arith, s .lower)) in omega arith
 
-  named : All (Mark spread) wanted
-  named = all-weaker (Mark (marked old wanted)) (Mark spread) (s .stays) wanted (marked-all wanted old (all-weaker (λ d. (start ≤ d) × (d < high)) (λ d. d < length old) (λ d a. omega (arith, a .1)) wanted around))
+  pub reached : Reached ns wanted upto low high old row
+  reached =
+      let inside = all-weaker (λ d. (start ≤ d) × (d < high)) (λ d. d < length old) (λ d a. omega (arith, a .1)) wanted around in
+      let named : All (Mark first) wanted = subst (λ r. All (Mark r) wanted) (sym e) (marked-all wanted old inside) in
+      record {
+        ordered = omega (arith, s .lower);
+        top = top;
+        named = all-both (λ d. (start ≤ d) × (d < high)) (Mark first) (λ d. (d < high) × Mark row d) (λ d a m. (a .1, s .stays d m)) wanted around named;
+        closed = λ k l m. ⊎-elim (λ lo. absurd (unmarked k lo m)) (λ hi. s .closed k hi l m) (cases-lt k low);
+        bare = unmarked;
+        below = under;
+        above = λ k l. s .above k l ∙ apart k (λ d a b. omega arith);
+      }
 
-  module _ (T : List Truth) (mv : Move) (filled : List ℕ) (f : Filling T mv low high spread filled) where
-    pub reach-any : (answer : Bool) → answer ≡ any (lit-row filled) wanted → answer ≡ any (λ d. of-node T d mv) wanted
-    reach-any answer e =
-        e ∙ any-same (λ d. (d < high) × Mark spread d) (lit-row filled) (λ d. of-node T d mv) (λ d a. byte-lit (of-node T d mv) _ (f .told d (a .0) (a .1))) wanted
-        (all-both (λ d. (start ≤ d) × (d < high)) (Mark spread) (λ d. (d < high) × Mark spread d) (λ d a m. (a .1, m)) wanted around named)
+-- the marks are filled in, and cleared
+module _ (ns : List Node) (wanted old marks filled : List ℕ) (upto low high : ℕ) (clear : Clear upto old) (r : Reached ns wanted upto low high old marks) (T : List Truth) (mv : Move) (f : Filling T mv low high marks filled) where
+  pub reached-any : (answer : Bool) → answer ≡ any (lit-row filled) wanted → answer ≡ any (λ d. of-node T d mv) wanted
+  reached-any answer e =
+      e ∙ any-same (λ d. (d < high) × Mark marks d) (lit-row filled) (λ d. of-node T d mv) (λ d a. byte-lit (of-node T d mv) _ (f .told d (a .0) (a .1))) wanted (r .named)
 
-    pub reach-clear : (row : List ℕ) → length row ≡ length old → Cleared low high filled row → row ≡ old
-    reach-clear row e c =
-        ext-getD 0 row old e
-        (λ k _. ⊎-elim
-          (λ lo. c .below k lo ∙ f .below k lo ∙ s .below k lo ∙ outside k lo)
-          (λ ge. ⊎-elim
-            (λ mid. c .zeros k ge mid ∙ sym (clear k (omega arith)))
-            (λ hi. c .above k hi ∙ f .above k hi ∙ s .above k hi ∙ marked-other wanted old k (all-weaker (λ d. (start ≤ d) × (d < high)) (λ d. k ≢ d) (λ d a. omega (arith, a .1)) wanted around))
-            (cases-lt k high))
-          (cases-lt k low))
+  pub reached-clear : (row : List ℕ) → length row ≡ length old → Cleared low high filled row → row ≡ old
+  reached-clear row e c =
+      ext-getD 0 row old e
+      (λ k _. ⊎-elim
+        (λ lo. c .below k lo ∙ f .below k lo ∙ r .below k lo)
+        (λ ge. ⊎-elim
+          (λ mid. c .zeros k ge mid ∙ sym (clear k (omega (arith, r .top))))
+          (λ hi. c .above k hi ∙ f .above k hi ∙ r .above k hi)
+          (cases-lt k high))
+        (cases-lt k low))

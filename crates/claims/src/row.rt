@@ -8,7 +8,7 @@ ghost use Rattle.formulas.specs.Lines.{entries, dist-line};
 ghost use Rattle.formulas.specs.Truths.{any, holds-of, of-node};
 ghost use Rattle.claims.specs.Spots.{spot-of, Placed};
 ghost use Rattle.claims.specs.Sums.{lit};
-ghost use Rattle.claims.specs.Rows.{lit-row, Mark, marked, lowest, dist-parts, parts, no-node, Parted, Spread, Ready-dist, Ready, row-byte, settled, Filling, Cleared, Clear};
+ghost use Rattle.claims.specs.Rows.{lit-row, Mark, marked, lowest, dist-parts, parts, no-node, Parted, Spread, Reached, Ready-dist, Ready, row-byte, settled, Filling, Cleared, Clear};
 ghost use Rattle.claims.specs.Boards.{truths-in, Board, Before};
 use crate::tables::Tables;
 use crate::spot::Spot;
@@ -103,6 +103,23 @@ fn spread(nodes: &[Node], span: Span, row: &mut [u8]) -> usize
     low
 }
 
+// Marks the nodes given and all that they are made of, in a clear row, and says where the marks are.
+fn reach(nodes: &[Node], wanted: &[u32], upto: usize, row: &mut [u8]) -> Span
+    requires parted { ⌜ Parted (now nodes) ⌝ }
+    requires before { ⌜ All (λ d. d < upto) (now wanted) ⌝ }
+    requires nodes { ⌜ upto ≤ length (now nodes) ⌝ }
+    requires long { ⌜ upto ≤ length (now row) ⌝ }
+    requires clear { ⌜ Clear upto (now row) ⌝ }
+    ensures { λ r. ⌜ Reached (now (nodes .entry)) (now (wanted .entry)) upto (r .low) (r .high) (now (row .entry)) (now (row .exit)) ⌝ }
+{
+    let marks = mark(wanted, upto, row);
+    let low = spread(nodes, marks, row);
+    Span {
+        low,
+        high: marks.high,
+    }
+}
+
 // Whether a node of the distribution sort holds, its parts by the row.
 fn dist_value<S: System>(system: &S, spot: Spot, terms: &[Term], truth: &[u8], row: &[u8], node: DistNode) -> bool
     requires placed { ⌜ Placed (meaning (now system)) spot ⌝ }
@@ -195,9 +212,7 @@ pub(crate) fn some_holds<S: System>(system: &S, spot: Spot, tables: Tables, upto
 {
     let first = run.first as usize;
     let wanted = &tables.alternatives[first..first + run.count as usize];
-    let marks = mark(wanted, upto, row);
-    let low = spread(tables.nodes, marks, row);
-    let span = Span { low, high: marks.high };
+    let span = reach(tables.nodes, wanted, upto, row);
     fill(system, spot, tables, truth, span, row);
     let answer = some_lit(row, wanted);
     clear(span, row);
