@@ -1,6 +1,6 @@
 -- The marks of a row become truths, and the row becomes clear again.
-use mathlib.Core.Path.{_≡_, refl, sym, ap, _∙_, subst}
-use mathlib.Core.Bool.{Bool, true, false, cond}
+use mathlib.Core.Path.{_≡_, sym, ap, _∙_, subst}
+use mathlib.Core.Bool.{Bool}
 use mathlib.Core.List.{List, [], _∷_}
 use mathlib.Core.Logic.{_≢_, ⊎-elim}
 use Prim.Native.Nat.{ℕ, _+_, _-_, _≤_, _<_}
@@ -14,12 +14,12 @@ use Rattle.std.proofs.shelf.Tests.{cases-lt, cases-eq, cases-bool, eqb-true, eq
 use Rattle.systems.specs.Meaning.{Meaning, Move}
 use Rattle.formulas.specs.declared.node.Node.{Node}
 use Rattle.formulas.specs.declared.node.Run.{Run}
-use Rattle.formulas.specs.Lines.{part, entries}
+use Rattle.formulas.specs.Lines.{entries}
 use Rattle.formulas.specs.Truths.{Truth, any, of-node}
 use Rattle.claims.specs.declared.tables.Tables.{Tables}
 use Rattle.claims.specs.Verdicts.{byte}
-use Rattle.claims.specs.Rows.{lit-row, Mark, marked, parts, no-node, Parted, Spread, Reached, settled, row-byte, Filling, Cleared, Clear}
-use Rattle.claims.specs.Boards.{truths-in, Sits, Agrees, Board}
+use Rattle.claims.specs.Rows.{lit-row, Mark, marked, parts, no-node, Spread, Reached, settled, row-byte, Filling, Cleared, Clear}
+use Rattle.claims.specs.Boards.{truths-in, Sits, Agrees}
 use Rattle.claims.proofs.Anys.{any-same}
 use Rattle.claims.proofs.Marks.{marked-all, marked-other}
 use Rattle.claims.proofs.Truthful.{byte-lit, row-byte-is, sits-parted}
@@ -50,9 +50,9 @@ module _ (M : Meaning) (t : Tables) (sits : Sits M t) (mv : Move) (within : All 
       let v = row-byte M (t .terms .now) (t .alternatives .now) table row (getD (t .nodes .now) j no-node) mv in
       ⊎-elim
       (λ on.
-        let mark : Mark old j = sym (f .above j (omega arith)) ∙ eqb-true (getD row j 0) 2 on in
-        let known = all-both (λ p. p < j) (Mark old) (λ p. getD row p 0 ≡ byte (of-node (truths-in M t) p mv)) (λ p l m. f .told p l m) (parts (getD (t .nodes .now) j no-node)) (sits-parted M t sits j here) (closed j hi mark) in
-        subst Good (sym (e ∙ cond-true (eqb (getD row j 0) 2) (set row j v) row on)) (fill-on v lo h (row-byte-is M t table j agrees sits here mv within row known)))
+      let mark : Mark old j = sym (f .above j (omega arith)) ∙ eqb-true (getD row j 0) 2 on in
+      let known = all-both (λ p. p < j) (Mark old) (λ p. getD row p 0 ≡ byte (of-node (truths-in M t) p mv)) (λ p l m. f .told p l m) (parts (getD (t .nodes .now) j no-node)) (sits-parted M t sits j here) (closed j hi mark) in
+      subst Good (sym (e ∙ cond-true (eqb (getD row j 0) 2) (set row j v) row on)) (fill-on v lo h (row-byte-is M t table j agrees sits here mv within row known)))
       (λ off. subst Good (sym (e ∙ cond-false (eqb (getD row j 0) 2) (set row j v) row off)) (fill-off (eqb-false (getD row j 0) 2 off)))
       (cases-bool (eqb (getD row j 0) 2))
 
@@ -95,9 +95,9 @@ module _ (ns : List Node) (wanted old marks filled : List ℕ) (upto low high : 
   reached-clear row e c =
       ext-getD 0 row old e
       (λ k _. ⊎-elim
-        (λ lo. c .below k lo ∙ f .below k lo ∙ r .below k lo)
-        (λ ge. ⊎-elim
-          (λ mid. c .zeros k ge mid ∙ sym (clear k (omega (arith, r .top))))
-          (λ hi. c .above k hi ∙ f .above k hi ∙ r .above k hi)
-          (cases-lt k high))
-        (cases-lt k low))
+      (λ lo. c .below k lo ∙ f .below k lo ∙ r .below k lo)
+      (λ ge. ⊎-elim
+      (λ mid. c .zeros k ge mid ∙ sym (clear k (omega (arith, r .top))))
+      (λ hi. c .above k hi ∙ f .above k hi ∙ r .above k hi)
+      (cases-lt k high))
+      (cases-lt k low))

@@ -1,4 +1,3 @@
-use native.Mathlib.Omega.{arith}
 use Rattle.claims.proofs.Reached.{reached}
 use Rattle.claims.proofs.row.reach.Needs as need
 
