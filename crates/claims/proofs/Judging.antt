@@ -1,6 +1,6 @@
 -- The tests that judge makes, passed.
 use mathlib.Core.Path.{_≡_, sym, ap, ap₂, _∙_, subst, subst₂, subst₃}
-use mathlib.Core.Bool.{Bool, true, false, cond, not, _&&_, _||_}
+use mathlib.Core.Bool.{true, false, not, _&&_, _||_}
 use mathlib.Core.List.{List}
 use mathlib.Core.Logic.{⊎-elim}
 use Prim.Native.Nat.{ℕ, _*_, _≤_, _<_}

@@ -1,14 +1,13 @@
 -- The bytes of a truth table, node after node and state after state.
-use mathlib.Core.Path.{_≡_, refl, sym, ap, ap₂, _∙_, subst}
+use mathlib.Core.Path.{_≡_, refl, sym, ap, ap₂, _∙_}
 use mathlib.Core.List.{List, [], _∷_, _++_, map, append-assoc}
 use Prim.Native.Nat.{ℕ, zero, suc, _+_, _-_, _*_, _≤_, _<_}
-use native.Mathlib.Nat.{add-zero, zero-add, add-assoc, suc-mul, zero-mul, mul-le-mul-right, le-of-suc-le-suc, not-suc-le-zero}
-use native.Mathlib.Numerals.{add-one}
+use native.Mathlib.Nat.{add-zero, zero-add, suc-mul, zero-mul, mul-le-mul-right, le-of-suc-le-suc, not-suc-le-zero}
 use native.Mathlib.Omega.{arith}
 use lib.ListN.{length, getD, set, take, drop, replicate}
 use Rattle.std.specs.Iters.{counting}
 use Rattle.std.specs.shelf.Lists.{joined}
-use Rattle.std.proofs.shelf.Lists.{append-nil, length-append, length-push, length-take-le, length-drop, length-replicate, take-append-drop, take-at, drop-at, drop-drop, drop-more, set-at, getD-append-left, getD-append-right, getD-append-add, getD-take, getD-drop, getD-replicate, joined-more, map-id, ext-getD}
+use Rattle.std.proofs.shelf.Lists.{length-append, length-push, length-take-le, length-drop, length-replicate, take-append-drop, take-at, drop-at, drop-drop, drop-more, set-at, getD-append-left, getD-append-right, getD-append-add, getD-take, getD-drop, getD-replicate, joined-more, map-id, ext-getD}
 use Rattle.std.proofs.shelf.Counted.{length-map-counting, getD-map-counting, map-counting-more}
 use Rattle.std.proofs.shelf.Tests.{cases-lt}
 use mathlib.Core.Logic.{⊎-elim}
@@ -118,9 +117,9 @@ cleared-over n old row h e c =
     let all : length row ≡ length (zeros ++ rest) = omega (arith, length-append zeros rest, length-drop (length zeros) old) in
     ext-getD 0 row (zeros ++ rest) all
     (λ k _. ⊎-elim
-      (λ lo. c .zeros k (omega arith) lo ∙ sym (getD-append-left zeros rest 0 k (omega arith) ∙ getD-replicate n k 0 0 lo))
-      (λ hi. c .above k hi ∙ ap (λ i. getD old i 0) (omega arith) ∙ sym (getD-append-right zeros rest (length zeros) k 0 refl (omega arith) ∙ getD-drop (length zeros) old (k - length zeros) 0))
-      (cases-lt k n))
+    (λ lo. c .zeros k (omega arith) lo ∙ sym (getD-append-left zeros rest 0 k (omega arith) ∙ getD-replicate n k 0 0 lo))
+    (λ hi. c .above k hi ∙ ap (λ i. getD old i 0) (omega arith) ∙ sym (getD-append-right zeros rest (length zeros) k 0 refl (omega arith) ∙ getD-drop (length zeros) old (k - length zeros) 0))
+    (cases-lt k n))
 
 -- the bytes of earlier nodes stay
 pub pasted-agrees : (M : Meaning) (T : List Truth) (i : ℕ) (new old table : List ℕ) → i * M .states ≤ length old → Agrees M T old i → table ≡ pasted (i * M .states) new old → Agrees M T table i

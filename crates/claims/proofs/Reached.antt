@@ -1,6 +1,6 @@
 -- The marks of a row become truths, and the row becomes clear again.
-use mathlib.Core.Path.{_≡_, refl, sym, ap, _∙_, subst}
-use mathlib.Core.Bool.{Bool, true, false, cond}
+use mathlib.Core.Path.{_≡_, sym, ap, _∙_, subst}
+use mathlib.Core.Bool.{Bool}
 use mathlib.Core.List.{List, [], _∷_}
 use mathlib.Core.Logic.{_≢_, ⊎-elim}
 use Prim.Native.Nat.{ℕ, _+_, _-_, _≤_, _<_}
@@ -14,12 +14,12 @@ use Rattle.std.proofs.shelf.Tests.{cases-lt, cases-eq, cases-bool, eqb-true, eq
 use Rattle.systems.specs.Meaning.{Meaning, Move}
 use Rattle.formulas.specs.declared.node.Node.{Node}
 use Rattle.formulas.specs.declared.node.Run.{Run}
-use Rattle.formulas.specs.Lines.{part, entries}
+use Rattle.formulas.specs.Lines.{entries}
 use Rattle.formulas.specs.Truths.{Truth, any, of-node}
 use Rattle.claims.specs.declared.tables.Tables.{Tables}
 use Rattle.claims.specs.Verdicts.{byte}
-use Rattle.claims.specs.Rows.{lit-row, Mark, marked, parts, no-node, Parted, Spread, settled, row-byte, Filling, Cleared, Clear}
-use Rattle.claims.specs.Boards.{truths-in, Sits, Agrees, Board}
+use Rattle.claims.specs.Rows.{lit-row, Mark, marked, parts, no-node, Spread, Reached, settled, row-byte, Filling, Cleared, Clear}
+use Rattle.claims.specs.Boards.{truths-in, Sits, Agrees}
 use Rattle.claims.proofs.Anys.{any-same}
 use Rattle.claims.proofs.Marks.{marked-all, marked-other}
 use Rattle.claims.proofs.Truthful.{byte-lit, row-byte-is, sits-parted}
@@ -50,9 +50,9 @@ module _ (M : Meaning) (t : Tables) (sits : Sits M t) (mv : Move) (within : All 
       let v = row-byte M (t .terms .now) (t .alternatives .now) table row (getD (t .nodes .now) j no-node) mv in
       ⊎-elim
       (λ on.
-        let mark : Mark old j = sym (f .above j (omega arith)) ∙ eqb-true (getD row j 0) 2 on in
-        let known = all-both (λ p. p < j) (Mark old) (λ p. getD row p 0 ≡ byte (of-node (truths-in M t) p mv)) (λ p l m. f .told p l m) (parts (getD (t .nodes .now) j no-node)) (sits-parted M t sits j here) (closed j hi mark) in
-        subst Good (sym (e ∙ cond-true (eqb (getD row j 0) 2) (set row j v) row on)) (fill-on v lo h (row-byte-is M t table j agrees sits here mv within row known)))
+      let mark : Mark old j = sym (f .above j (omega arith)) ∙ eqb-true (getD row j 0) 2 on in
+      let known = all-both (λ p. p < j) (Mark old) (λ p. getD row p 0 ≡ byte (of-node (truths-in M t) p mv)) (λ p l m. f .told p l m) (parts (getD (t .nodes .now) j no-node)) (sits-parted M t sits j here) (closed j hi mark) in
+      subst Good (sym (e ∙ cond-true (eqb (getD row j 0) 2) (set row j v) row on)) (fill-on v lo h (row-byte-is M t table j agrees sits here mv within row known)))
       (λ off. subst Good (sym (e ∙ cond-false (eqb (getD row j 0) 2) (set row j v) row off)) (fill-off (eqb-false (getD row j 0) 2 off)))
       (cases-bool (eqb (getD row j 0) 2))
 
@@ -60,37 +60,44 @@ module _ (M : Meaning) (t : Tables) (sits : Sits M t) (mv : Move) (within : All 
 pub sliced : {X : Type 0} (xs : List X) (r : Run) → take (r .first + r .count - r .first) (drop (r .first) xs) ≡ entries xs r
 sliced xs r = ap (λ k. take k (drop (r .first) xs)) (omega arith)
 
--- from a clear row, the nodes wanted are marked, and then all that they reach, from low to high
-module _ (ns : List Node) (wanted old spread : List ℕ) (upto start low high : ℕ) (clear : Clear upto old) (long : upto ≤ length old) (top : high ≤ upto) (around : All (λ d. (start ≤ d) × (d < high)) wanted) (s : Spread ns low start low high (marked old wanted) spread) where
-  outside : (k : ℕ) → (k < low) → getD (marked old wanted) k 0 ≡ getD old k 0
-  outside k l = marked-other wanted old k (all-weaker (λ d. (start ≤ d) × (d < high)) (λ d. k ≢ d) (λ d a. omega (arith, a .0, s .lower)) wanted around)
+-- from a clear row, the nodes wanted are marked, and then what they are made of
+module _ (ns : List Node) (wanted old first row : List ℕ) (upto start low high : ℕ) (clear : Clear upto old) (long : upto ≤ length old) (top : high ≤ upto) (ordered : start ≤ high) (around : All (λ d. (start ≤ d) × (d < high)) wanted) (e : first ≡ marked old wanted) (s : Spread ns low start low high first row) where
+  apart : (k : ℕ) → ((d : ℕ) → start ≤ d → d < high → k ≢ d) → getD first k 0 ≡ getD old k 0
+  apart k ne = ap (λ r. getD r k 0) e ∙ marked-other wanted old k (all-weaker (λ d. (start ≤ d) × (d < high)) (λ d. k ≢ d) (λ d a. ne d (a .0) (a .1)) wanted around)
 
-  pub reach-bare : low ≤ high → (k : ℕ) → k < low → Mark spread k → ⊥
-  reach-bare h k l m = let z = s .below k l ∙ outside k l ∙ clear k (omega arith) in omega arith
+  under : (k : ℕ) → k < low → getD row k 0 ≡ getD old k 0
+  under k l = s .below k l ∙ apart k (λ d a b. omega (arith, s .lower))
 
-  pub reach-closed : low ≤ high → (k : ℕ) → k < high → Mark spread k → All (Mark spread) (parts (getD ns k no-node))
-  reach-closed h k l m =
-      ⊎-elim
-      (λ lo. absurd (reach-bare h k lo m))
-      (λ hi. s .closed k hi l m)
-      (cases-lt k low)
+  unmarked : (k : ℕ) → k < low → Mark row k → ⊥
+  unmarked k l m = let z = under k l ∙ clear k (omega (arith, s .lower)) in omega arith
 
-  named : All (Mark spread) wanted
-  named = all-weaker (Mark (marked old wanted)) (Mark spread) (s .stays) wanted (marked-all wanted old (all-weaker (λ d. (start ≤ d) × (d < high)) (λ d. d < length old) (λ d a. omega (arith, a .1)) wanted around))
+  pub reached : Reached ns wanted upto low high old row
+  reached =
+      let inside = all-weaker (λ d. (start ≤ d) × (d < high)) (λ d. d < length old) (λ d a. omega (arith, a .1)) wanted around in
+      let named : All (Mark first) wanted = subst (λ r. All (Mark r) wanted) (sym e) (marked-all wanted old inside) in
+      record {
+        ordered = omega (arith, s .lower);
+        top = top;
+        named = all-both (λ d. (start ≤ d) × (d < high)) (Mark first) (λ d. (d < high) × Mark row d) (λ d a m. (a .1, s .stays d m)) wanted around named;
+        closed = λ k l m. ⊎-elim (λ lo. absurd (unmarked k lo m)) (λ hi. s .closed k hi l m) (cases-lt k low);
+        bare = unmarked;
+        below = under;
+        above = λ k l. s .above k l ∙ apart k (λ d a b. omega arith);
+      }
 
-  module _ (T : List Truth) (mv : Move) (filled : List ℕ) (f : Filling T mv low high spread filled) where
-    pub reach-any : (answer : Bool) → answer ≡ any (lit-row filled) wanted → answer ≡ any (λ d. of-node T d mv) wanted
-    reach-any answer e =
-        e ∙ any-same (λ d. (d < high) × Mark spread d) (lit-row filled) (λ d. of-node T d mv) (λ d a. byte-lit (of-node T d mv) _ (f .told d (a .0) (a .1))) wanted
-        (all-both (λ d. (start ≤ d) × (d < high)) (Mark spread) (λ d. (d < high) × Mark spread d) (λ d a m. (a .1, m)) wanted around named)
+-- the marks are filled in, and cleared
+module _ (ns : List Node) (wanted old marks filled : List ℕ) (upto low high : ℕ) (clear : Clear upto old) (r : Reached ns wanted upto low high old marks) (T : List Truth) (mv : Move) (f : Filling T mv low high marks filled) where
+  pub reached-any : (answer : Bool) → answer ≡ any (lit-row filled) wanted → answer ≡ any (λ d. of-node T d mv) wanted
+  reached-any answer e =
+      e ∙ any-same (λ d. (d < high) × Mark marks d) (lit-row filled) (λ d. of-node T d mv) (λ d a. byte-lit (of-node T d mv) _ (f .told d (a .0) (a .1))) wanted (r .named)
 
-    pub reach-clear : (row : List ℕ) → length row ≡ length old → Cleared low high filled row → row ≡ old
-    reach-clear row e c =
-        ext-getD 0 row old e
-        (λ k _. ⊎-elim
-          (λ lo. c .below k lo ∙ f .below k lo ∙ s .below k lo ∙ outside k lo)
-          (λ ge. ⊎-elim
-            (λ mid. c .zeros k ge mid ∙ sym (clear k (omega arith)))
-            (λ hi. c .above k hi ∙ f .above k hi ∙ s .above k hi ∙ marked-other wanted old k (all-weaker (λ d. (start ≤ d) × (d < high)) (λ d. k ≢ d) (λ d a. omega (arith, a .1)) wanted around))
-            (cases-lt k high))
-          (cases-lt k low))
+  pub reached-clear : (row : List ℕ) → length row ≡ length old → Cleared low high filled row → row ≡ old
+  reached-clear row e c =
+      ext-getD 0 row old e
+      (λ k _. ⊎-elim
+      (λ lo. c .below k lo ∙ f .below k lo ∙ r .below k lo)
+      (λ ge. ⊎-elim
+      (λ mid. c .zeros k ge mid ∙ sym (clear k (omega (arith, r .top))))
+      (λ hi. c .above k hi ∙ f .above k hi ∙ r .above k hi)
+      (cases-lt k high))
+      (cases-lt k low))

@@ -1,15 +1,14 @@
 -- What is used of a sound system: few states, some mass but not too much, and moves and points that stay within the states and weigh no more than the mass.
-use mathlib.Core.Path.{_≡_, sym, subst}
-use mathlib.Core.List.{List, [], _∷_}
+use mathlib.Core.Path.{sym, subst}
+use mathlib.Core.List.{[]}
 use mathlib.Core.Logic.{⊎-elim}
-use Prim.Native.Nat.{ℕ, _≤_, _<_}
+use Prim.Native.Nat.{_≤_, _<_}
 use native.Mathlib.Omega.{arith}
 use lib.ListN.{length, getD}
 use Rattle.std.specs.shelf.Lists.{sumBy, All}
 use Rattle.std.proofs.shelf.Lists.{getD-past}
 use Rattle.std.proofs.shelf.Elements.{all-getD, all-weaker}
 use Rattle.std.proofs.shelf.Tests.{cases-lt}
-use Rattle.systems.specs.declared.system.Target.{Target}
 use Rattle.systems.specs.Meaning.{Meaning, Move, Sound, Good, Aimed}
 use Rattle.claims.specs.declared.spot.Spot.{Spot}
 use Rattle.claims.specs.declared.spot.Spot.the-variants.{Along, Here}

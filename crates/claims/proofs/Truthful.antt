@@ -2,7 +2,7 @@
 use mathlib.Core.Path.{_≡_, refl, sym, ap, ap₂, _∙_}
 use mathlib.Core.Bool.{Bool, true, false, not, _&&_, cond}
 use mathlib.Core.List.{List, [], _∷_}
-use Prim.Native.Nat.{ℕ, _+_, _*_, _/_, _≤_, _<_}
+use Prim.Native.Nat.{ℕ, _+_, _*_, _≤_, _<_}
 use native.Mathlib.Nat.{mul-le-mul-right, add-mul, mul-assoc, one-mul}
 use native.Mathlib.Omega.{arith}
 use lib.Dec.{eqb, leb}
@@ -24,9 +24,9 @@ use Rattle.formulas.specs.Right.{Right, Right-sum}
 use Rattle.formulas.specs.Truths.{weigh, total, holds-at, holds-of, at-node, of-node}
 use Rattle.claims.specs.declared.tables.Tables.{Tables}
 use Rattle.claims.specs.Verdicts.{byte}
-use Rattle.claims.specs.Sums.{lit, Row-at, Ready-terms, Ready-sum}
+use Rattle.claims.specs.Sums.{lit, Row-at, Ready-sum}
 use Rattle.claims.specs.Rows.{lit-row, parts, no-node, Parted, Ready, row-byte}
-use Rattle.claims.specs.Boards.{truths-in, most-removed, Sits, Agrees, Board}
+use Rattle.claims.specs.Boards.{truths-in, most-removed, Sits, Agrees}
 
 pub byte-lit : (b : Bool) (x : ℕ) → x ≡ byte b → eqb x 1 ≡ b
 byte-lit true x e = eq-eqb x 1 e

@@ -5,8 +5,6 @@ use mathlib.Core.List.{List}
 use Prim.Native.Nat.{ℕ}
 use lib.ListN.{take}
 use Rattle.systems.specs.declared.actions.ActionSet.{ActionSet}
-use Rattle.formulas.specs.declared.node.Node.{Node}
-use Rattle.formulas.specs.declared.node.Term.{Term}
 use Rattle.formulas.specs.declared.node.Fills.{Fills}
 use Rattle.formulas.specs.declared.draft.Draft.{Draft}
 use Rattle.formulas.specs.Lines.{Line, lines, Formula}

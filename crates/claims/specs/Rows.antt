@@ -59,6 +59,16 @@ pub record Spread (ns : List Node) (j start low high : ℕ) (old row : List ℕ)
   pub below : (k : ℕ) → k < low → getD row k 0 ≡ getD old k 0
   pub above : (k : ℕ) → high ≤ k → getD row k 0 ≡ getD old k 0
 
+-- the marks in a row that was clear below upto: they are from low to high, and are the nodes wanted and what those are made of
+pub record Reached (ns : List Node) (wanted : List ℕ) (upto low high : ℕ) (old row : List ℕ) : Type 0 where
+  pub ordered : low ≤ high
+  pub top : high ≤ upto
+  pub named : All (λ d. (d < high) × Mark row d) wanted
+  pub closed : (k : ℕ) → k < high → Mark row k → All (Mark row) (parts (getD ns k no-node))
+  pub bare : (k : ℕ) → k < low → Mark row k → ⊥
+  pub below : (k : ℕ) → k < low → getD row k 0 ≡ getD old k 0
+  pub above : (k : ℕ) → high ≤ k → getD row k 0 ≡ getD old k 0
+
 -- what it takes to evaluate a node of the distribution sort with a truth table of that size and a row of that length
 abbrev pub Ready-dist : Meaning → ℕ → ℕ → List Term → DistNode → Type 0
 Ready-dist M size len ts dn.the-variants.Yes = Unit {0}

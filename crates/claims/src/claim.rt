@@ -24,7 +24,12 @@ impl Claim {
         ensures mass { λ r. ⌜ r .mass ≡ mass ⌝ }
         ensures shared { λ r. ⌜ r .shared ≡ shared ⌝ }
     {
-        Claim { fills, root, mass, shared }
+        Claim {
+            fills,
+            root,
+            mass,
+            shared,
+        }
     }
 
     // How much of each table the formula uses.

@@ -1,9 +1,9 @@
 // Whether the formula of a claim holds of a system.
 ghost use mathlib.Core.Path.{_≡_};
 ghost use mathlib.Core.Bool.{_||_};
-ghost use Prim.Native.Nat.{ℕ, _+_, _*_, _≤_, _<_};
+ghost use Prim.Native.Nat.{_+_, _*_, _≤_, _<_};
 ghost use lib.Dec.{ltb};
-ghost use lib.ListN.{length, getD, take, replicate};
+ghost use lib.ListN.{length, replicate};
 ghost use Rattle.std.specs.declared.result.Result.the-variants.{Ok};
 ghost use Rattle.systems.specs.Meaning.{point};
 ghost use Rattle.formulas.specs.Lines.{line, state-line, entries};
@@ -13,15 +13,15 @@ ghost use Rattle.claims.specs.Verdicts.{verdict, judged, byte, node-bytes, byt
 ghost use Rattle.claims.specs.Sums.{lit, Row-at};
 ghost use Rattle.claims.specs.Rows.{Clear};
 ghost use Rattle.claims.specs.Boards.{truths-in, most-removed, Sits, Board, Before, pasted, Passed};
-use crate::tables::front;
 use crate::claim::Claim;
-use crate::tables::Tables;
 use crate::fault::Refusal;
+use crate::row::Span;
 use crate::row::clear;
 use crate::row::some_holds;
-use crate::row::Span;
 use crate::spot::Spot;
 use crate::sum::is_lit;
+use crate::tables::Tables;
+use crate::tables::front;
 use crate::verdict::Verdict;
 use formulas::node::Node;
 use formulas::node::Run;
@@ -34,7 +34,16 @@ use systems::system::System;
 const MOST_MASS: u128 = 1000000000000000;
 
 // Whether some alternative of the run holds of some move of the state on the action.
-fn some_move<S: System>(system: &S, state: u32, action: u32, tables: Tables, upto: usize, run: Run, truth: &[u8], row: &mut [u8]) -> bool
+fn some_move<S: System>(
+    system: &S,
+    state: u32,
+    action: u32,
+    tables: Tables,
+    upto: usize,
+    run: Run,
+    truth: &[u8],
+    row: &mut [u8],
+) -> bool
     requires board { ⌜ Board (meaning (now system)) tables upto (now truth) (length (now row)) ⌝ }
     requires clear { ⌜ Clear upto (now row) ⌝ }
     requires run { ⌜ Before tables upto run ⌝ }
@@ -43,14 +52,32 @@ fn some_move<S: System>(system: &S, state: u32, action: u32, tables: Tables, upt
 {
     let count = system.moves(state, action);
     for place in 0..count {
-        if some_holds(system, Spot::Along(state, action, place), tables, upto, run, truth, row) {
+        if some_holds(
+            system,
+            Spot::Along(state, action, place),
+            tables,
+            upto,
+            run,
+            truth,
+            row,
+        ) {
             return true;
         }
     }
     false
 }
 
-fn step_holds<S: System>(system: &S, state: u32, action: u32, tables: Tables, upto: usize, moves: Run, heres: Run, truth: &[u8], row: &mut [u8]) -> bool
+fn step_holds<S: System>(
+    system: &S,
+    state: u32,
+    action: u32,
+    tables: Tables,
+    upto: usize,
+    moves: Run,
+    heres: Run,
+    truth: &[u8],
+    row: &mut [u8],
+) -> bool
     requires inside { ⌜ state < meaning (now system) .states ⌝ }
     requires board { ⌜ Board (meaning (now system)) tables upto (now truth) (length (now row)) ⌝ }
     requires clear { ⌜ Clear upto (now row) ⌝ }
@@ -66,7 +93,15 @@ fn step_holds<S: System>(system: &S, state: u32, action: u32, tables: Tables, up
 }
 
 // Whether a node of the state sort holds in a state, with the truths of the nodes before it.
-fn state_holds<S: System>(system: &S, state: u32, tables: Tables, i: usize, node: StateNode, truth: &[u8], row: &mut [u8]) -> bool
+fn state_holds<S: System>(
+    system: &S,
+    state: u32,
+    tables: Tables,
+    i: usize,
+    node: StateNode,
+    truth: &[u8],
+    row: &mut [u8],
+) -> bool
     requires inside { ⌜ state < meaning (now system) .states ⌝ }
     requires board { ⌜ Board (meaning (now system)) tables i (now truth) (length (now row)) ⌝ }
     requires clear { ⌜ Clear i (now row) ⌝ }
@@ -78,18 +113,26 @@ fn state_holds<S: System>(system: &S, state: u32, tables: Tables, i: usize, node
     match node {
         StateNode::Yes => true,
         StateNode::No => false,
-        StateNode::And(j, k) => {
-            let left = is_lit(truth, n, j, state);
-            let right = is_lit(truth, n, k, state);
-            left & right
-        }
+        StateNode::And(j, k) => is_lit(truth, n, j, state) && is_lit(truth, n, k, state),
         StateNode::Not(j) => !is_lit(truth, n, j, state),
-        StateNode::Step { action, moves, heres } => step_holds(system, state, action, tables, i, moves, heres, truth, row),
+        StateNode::Step {
+            action,
+            moves,
+            heres,
+        } => step_holds(system, state, action, tables, i, moves, heres, truth, row),
     }
 }
 
 // The byte of a node in a state: 0 for one of the distribution sort.
-fn byte_in<S: System>(system: &S, state: u32, tables: Tables, i: usize, node: Node, truth: &[u8], row: &mut [u8]) -> u8
+fn byte_in<S: System>(
+    system: &S,
+    state: u32,
+    tables: Tables,
+    i: usize,
+    node: Node,
+    truth: &[u8],
+    row: &mut [u8],
+) -> u8
     requires inside { ⌜ state < meaning (now system) .states ⌝ }
     requires board { ⌜ Board (meaning (now system)) tables i (now truth) (length (now row)) ⌝ }
     requires clear { ⌜ Clear i (now row) ⌝ }
@@ -99,7 +142,11 @@ fn byte_in<S: System>(system: &S, state: u32, tables: Tables, i: usize, node: No
 {
     match node {
         Node::State(x) => {
-            if state_holds(system, state, tables, i, x, truth, row) { 1 } else { 0 }
+            if state_holds(system, state, tables, i, x, truth, row) {
+                1
+            } else {
+                0
+            }
         }
         Node::Dist(_) => 0,
     }
@@ -137,7 +184,13 @@ fn fill_table<S: System>(system: &S, tables: Tables, truth: &mut [u8], row: &mut
 }
 
 // Fills in all truths, and looks up the root's.
-fn evaluate<S: System>(root: u32, tables: Tables, system: &S, truth: &mut [u8], row: &mut [u8]) -> Verdict
+fn evaluate<S: System>(
+    root: u32,
+    tables: Tables,
+    system: &S,
+    truth: &mut [u8],
+    row: &mut [u8],
+) -> Verdict
     requires sits { ⌜ Sits (meaning (now system)) tables ⌝ }
     requires root { ⌜ root < length (now (tables .nodes)) ⌝ }
     requires room { ⌜ length (now (tables .nodes)) * meaning (now system) .states ≤ length (now truth) ⌝ }
@@ -156,7 +209,13 @@ fn evaluate<S: System>(root: u32, tables: Tables, system: &S, truth: &mut [u8], 
 }
 
 // The verdict on a claim that passes the tests.
-fn decide<S: System>(claim: &Claim, tables: Tables, system: &S, truth: &mut [u8], row: &mut [u8]) -> Verdict
+fn decide<S: System>(
+    claim: &Claim,
+    tables: Tables,
+    system: &S,
+    truth: &mut [u8],
+    row: &mut [u8],
+) -> Verdict
     requires { ⌜ Passed (meaning (now system)) (now claim) tables (length (now truth)) (length (now row)) ⌝ }
     ensures value { λ r. ⌜ Ok r ≡ judged (meaning (now (system .entry))) (now (claim .entry)) (tables .entry) (length (now (truth .entry))) (length (now (row .entry))) ⌝ }
     ensures truth { λ _. ⌜ now (truth .exit) ≡ over (truth-bytes (meaning (now (system .entry))) (now (claim .entry)) (tables .entry)) (now (truth .entry)) ⌝ }
@@ -182,14 +241,27 @@ fn too_short(nodes: u32, states: u32, size: usize, len: usize) -> bool
 
 // Judges a claim on a system: yes if its formula holds in state 0.
 // The truth table gets the truth of every node in every state, and the row is cleared.
-pub fn judge<S: System>(claim: &Claim, tables: Tables, system: &S, truth: &mut [u8], row: &mut [u8]) -> Result<Verdict, Refusal>
+pub fn judge<S: System>(
+    claim: &Claim,
+    tables: Tables,
+    system: &S,
+    truth: &mut [u8],
+    row: &mut [u8],
+) -> Result<Verdict, Refusal>
     ensures value { λ r. ⌜ r ≡ judged (meaning (now (system .entry))) (now (claim .entry)) (tables .entry) (length (now (truth .entry))) (length (now (row .entry))) ⌝ }
     ensures truth { λ r. ⌜ now (truth .exit) ≡ after r (truth-bytes (meaning (now (system .entry))) (now (claim .entry)) (tables .entry)) (now (truth .entry)) ⌝ }
     ensures row { λ r. ⌜ now (row .exit) ≡ after r (row-bytes (now (claim .entry))) (now (row .entry)) ⌝ }
 {
     let fills = claim.fills();
     let removed = claim.mass();
-    if !formula_in(fills, claim.root(), removed, tables.nodes, tables.terms, tables.alternatives) {
+    if !formula_in(
+        fills,
+        claim.root(),
+        removed,
+        tables.nodes,
+        tables.terms,
+        tables.alternatives,
+    ) {
         return Err(Refusal::NoFormula);
     }
     if too_heavy(removed, system.mass()) {

@@ -5,8 +5,8 @@ ghost use Rattle.std.specs.declared.result.Result.the-variants.{Ok, Err};
 ghost use Rattle.claims.specs.declared.fault.Refusal.the-variants.{NoFormula};
 ghost use Rattle.claims.specs.Claims.{stands-in, Opened};
 use crate::claim::Claim;
-use crate::tables::Tables;
 use crate::fault::Refusal;
+use crate::tables::Tables;
 use formulas::draft::Draft;
 use formulas::stands::formula_in;
 use systems::actions::ActionSet;
@@ -18,8 +18,16 @@ pub fn open(draft: Draft, tables: Tables, shared: ActionSet) -> Result<Claim, (D
 {
     let fills = draft.fills();
     let root = draft.root();
-    if !formula_in(fills, root, 1, tables.nodes, tables.terms, tables.alternatives) {
+    let removed = 1;
+    if !formula_in(
+        fills,
+        root,
+        removed,
+        tables.nodes,
+        tables.terms,
+        tables.alternatives,
+    ) {
         return Err((draft, Refusal::NoFormula));
     }
-    Ok(Claim::new(fills, root, 1, shared))
+    Ok(Claim::new(fills, root, removed, shared))
 }

@@ -8,11 +8,11 @@ ghost use Rattle.formulas.specs.Lines.{entries, dist-line};
 ghost use Rattle.formulas.specs.Truths.{any, holds-of, of-node};
 ghost use Rattle.claims.specs.Spots.{spot-of, Placed};
 ghost use Rattle.claims.specs.Sums.{lit};
-ghost use Rattle.claims.specs.Rows.{lit-row, Mark, marked, lowest, dist-parts, parts, no-node, Parted, Spread, Ready-dist, Ready, row-byte, settled, Filling, Cleared, Clear};
+ghost use Rattle.claims.specs.Rows.{lit-row, Mark, marked, lowest, dist-parts, parts, no-node, Parted, Spread, Reached, Ready-dist, Ready, row-byte, settled, Filling, Cleared, Clear};
 ghost use Rattle.claims.specs.Boards.{truths-in, Board, Before};
-use crate::tables::Tables;
 use crate::spot::Spot;
 use crate::sum::sum_holds;
+use crate::tables::Tables;
 use formulas::node::DistNode;
 use formulas::node::Node;
 use formulas::node::Run;
@@ -81,7 +81,10 @@ fn mark_dist_parts(node: DistNode, low: usize, row: &mut [u8]) -> usize
             row[i as usize] = MARK;
             low.min(i as usize)
         }
-        DistNode::Sum { threshold: _, terms: _ } => low,
+        DistNode::Sum {
+            threshold: _,
+            terms: _,
+        } => low,
     }
 }
 
@@ -103,8 +106,32 @@ fn spread(nodes: &[Node], span: Span, row: &mut [u8]) -> usize
     low
 }
 
+// Marks the nodes given and all that they are made of, in a clear row, and says where the marks are.
+fn reach(nodes: &[Node], wanted: &[u32], upto: usize, row: &mut [u8]) -> Span
+    requires parted { ⌜ Parted (now nodes) ⌝ }
+    requires before { ⌜ All (λ d. d < upto) (now wanted) ⌝ }
+    requires nodes { ⌜ upto ≤ length (now nodes) ⌝ }
+    requires long { ⌜ upto ≤ length (now row) ⌝ }
+    requires clear { ⌜ Clear upto (now row) ⌝ }
+    ensures { λ r. ⌜ Reached (now (nodes .entry)) (now (wanted .entry)) upto (r .low) (r .high) (now (row .entry)) (now (row .exit)) ⌝ }
+{
+    let marks = mark(wanted, upto, row);
+    let low = spread(nodes, marks, row);
+    Span {
+        low,
+        high: marks.high,
+    }
+}
+
 // Whether a node of the distribution sort holds, its parts by the row.
-fn dist_value<S: System>(system: &S, spot: Spot, terms: &[Term], truth: &[u8], row: &[u8], node: DistNode) -> bool
+fn dist_value<S: System>(
+    system: &S,
+    spot: Spot,
+    terms: &[Term],
+    truth: &[u8],
+    row: &[u8],
+    node: DistNode,
+) -> bool
     requires placed { ⌜ Placed (meaning (now system)) spot ⌝ }
     requires ready { ⌜ Ready-dist (meaning (now system)) (length (now truth)) (length (now row)) (now terms) node ⌝ }
     ensures { λ r. ⌜ r ≡ holds-of (meaning (now (system .entry))) (lit (now (truth .entry)) (meaning (now (system .entry)) .states)) (λ d _. lit-row (now (row .entry)) d) (dist-line (now (terms .entry)) node) (spot-of (meaning (now (system .entry))) spot) ⌝ }
@@ -114,12 +141,22 @@ fn dist_value<S: System>(system: &S, spot: Spot, terms: &[Term], truth: &[u8], r
         DistNode::No => false,
         DistNode::And(i, j) => row[i as usize] == 1 && row[j as usize] == 1,
         DistNode::Not(i) => row[i as usize] != 1,
-        DistNode::Sum { threshold, terms: run } => sum_holds(system, spot, terms, truth, threshold, run),
+        DistNode::Sum {
+            threshold,
+            terms: run,
+        } => sum_holds(system, spot, terms, truth, threshold, run),
     }
 }
 
 // The byte of a node in the row: 0 for one of the state sort.
-fn value_in_row<S: System>(system: &S, spot: Spot, terms: &[Term], truth: &[u8], row: &[u8], node: Node) -> u8
+fn value_in_row<S: System>(
+    system: &S,
+    spot: Spot,
+    terms: &[Term],
+    truth: &[u8],
+    row: &[u8],
+    node: Node,
+) -> u8
     requires placed { ⌜ Placed (meaning (now system)) spot ⌝ }
     requires ready { ⌜ Ready (meaning (now system)) (length (now truth)) (length (now row)) (now terms) node ⌝ }
     ensures { λ r. ⌜ ((alts : List ℕ) → r ≡ row-byte (meaning (now (system .entry))) (now (terms .entry)) alts (now (truth .entry)) (now (row .entry)) node (spot-of (meaning (now (system .entry))) spot)) ⌝ }
@@ -127,7 +164,11 @@ fn value_in_row<S: System>(system: &S, spot: Spot, terms: &[Term], truth: &[u8],
     match node {
         Node::State(_) => 0,
         Node::Dist(d) => {
-            if dist_value(system, spot, terms, truth, row, d) { 1 } else { 0 }
+            if dist_value(system, spot, terms, truth, row, d) {
+                1
+            } else {
+                0
+            }
         }
     }
 }
@@ -185,7 +226,15 @@ pub(crate) fn clear(span: Span, row: &mut [u8])
 }
 
 // Whether some alternative of the run holds of the move or point. The row is clear before and after.
-pub(crate) fn some_holds<S: System>(system: &S, spot: Spot, tables: Tables, upto: usize, run: Run, truth: &[u8], row: &mut [u8]) -> bool
+pub(crate) fn some_holds<S: System>(
+    system: &S,
+    spot: Spot,
+    tables: Tables,
+    upto: usize,
+    run: Run,
+    truth: &[u8],
+    row: &mut [u8],
+) -> bool
     requires placed { ⌜ Placed (meaning (now system)) spot ⌝ }
     requires board { ⌜ Board (meaning (now system)) tables upto (now truth) (length (now row)) ⌝ }
     requires clear { ⌜ Clear upto (now row) ⌝ }
@@ -195,9 +244,7 @@ pub(crate) fn some_holds<S: System>(system: &S, spot: Spot, tables: Tables, upto
 {
     let first = run.first as usize;
     let wanted = &tables.alternatives[first..first + run.count as usize];
-    let marks = mark(wanted, upto, row);
-    let low = spread(tables.nodes, marks, row);
-    let span = Span { low, high: marks.high };
+    let span = reach(tables.nodes, wanted, upto, row);
     fill(system, spot, tables, truth, span, row);
     let answer = some_lit(row, wanted);
     clear(span, row);

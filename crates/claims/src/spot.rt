@@ -37,5 +37,12 @@ pub(crate) fn target<S: System>(system: &S, spot: Spot, index: u32) -> Option<Ta
 fn point(state: u32, mass: u64, index: u32) -> Option<Target>
     ensures { λ r. ⌜ r ≡ nth (record { state = state; weight = mass } ∷ []) index ⌝ }
 {
-    if index == 0 { Some(Target { state, weight: mass }) } else { None }
+    if index == 0 {
+        Some(Target {
+            state,
+            weight: mass,
+        })
+    } else {
+        None
+    }
 }

@@ -1,16 +1,16 @@
 // Whether a sum holds of a move or point, by the truth table.
 ghost use mathlib.Core.Path.{_≡_};
 ghost use mathlib.Core.Bool.{cond};
-ghost use Prim.Native.Nat.{ℕ, _+_, _*_, _^_, _≤_, _<_};
+ghost use Prim.Native.Nat.{_+_, _*_, _^_, _≤_, _<_};
 ghost use lib.Dec.{leb};
 ghost use lib.ListN.{length, getD};
 ghost use Rattle.formulas.specs.Lines.{entries};
 ghost use Rattle.formulas.specs.Truths.{total};
 ghost use Rattle.claims.specs.Spots.{spot-of, Placed};
 ghost use Rattle.claims.specs.Sums.{lit, Row-at, Rows-at, coefficients, coefficients-of, Ready-terms, Ready-sum, no-target};
+use crate::spot::Spot;
 use crate::spot::target;
 use crate::spot::targets;
-use crate::spot::Spot;
 use formulas::node::Run;
 use formulas::node::Term;
 use systems::system::System;
@@ -32,7 +32,11 @@ fn coefficient_at(term: Term, truth: &[u8], states: usize, state: u32) -> u64
     requires few { ⌜ states ≤ 2 ^ 30 ⌝ }
     ensures { λ r. ⌜ r ≡ cond (lit (now (truth .entry)) states (term .node) state) (term .coefficient) 0 ⌝ }
 {
-    if is_lit(truth, states, term.node, state) { term.coefficient } else { 0 }
+    if is_lit(truth, states, term.node, state) {
+        term.coefficient
+    } else {
+        0
+    }
 }
 
 // The coefficients of the terms whose node holds in the state.
@@ -77,12 +81,24 @@ fn sum_terms<S: System>(system: &S, spot: Spot, truth: &[u8], terms: &[Term]) ->
     sum
 }
 
-pub(crate) fn sum_holds<S: System>(system: &S, spot: Spot, terms: &[Term], truth: &[u8], threshold: u64, run: Run) -> bool
+pub(crate) fn sum_holds<S: System>(
+    system: &S,
+    spot: Spot,
+    terms: &[Term],
+    truth: &[u8],
+    threshold: u64,
+    run: Run,
+) -> bool
     requires placed { ⌜ Placed (meaning (now system)) spot ⌝ }
     requires ready { ⌜ Ready-sum (meaning (now system)) (length (now truth)) (now terms) threshold run ⌝ }
     ensures { λ r. ⌜ r ≡ leb (threshold * meaning (now (system .entry)) .mass) (total (lit (now (truth .entry)) (meaning (now (system .entry)) .states)) (entries (now (terms .entry)) run) (spot-of (meaning (now (system .entry))) spot)) ⌝ }
 {
     let first = run.first as usize;
-    let sum = sum_terms(system, spot, truth, &terms[first..first + run.count as usize]);
+    let sum = sum_terms(
+        system,
+        spot,
+        truth,
+        &terms[first..first + run.count as usize],
+    );
     threshold * system.mass() <= sum
 }

@@ -1,4 +1,4 @@
-use mathlib.Core.Path.{_≡_, _∙_, subst}
+use mathlib.Core.Path.{_∙_, subst}
 use Rattle.formulas.specs.declared.node.Fills.{Fills}
 use Rattle.claims.specs.Claims.{Front}
 use Rattle.claims.proofs.Soundness.{some-mass}

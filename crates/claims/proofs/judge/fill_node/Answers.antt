@@ -1,12 +1,11 @@
 use mathlib.Core.Path.{_≡_, refl, ap, _∙_, sym, subst}
-use mathlib.Core.List.{List}
-use Prim.Native.Nat.{ℕ, _+_, _*_, _≤_, _<_}
+use Prim.Native.Nat.{_+_, _*_, _<_}
 use native.Mathlib.Omega.{arith}
-use lib.ListN.{length, getD, set}
+use lib.ListN.{set}
 use Rattle.formulas.specs.Truths.{at-node}
 use Rattle.claims.specs.Verdicts.{byte, node-bytes}
 use Rattle.claims.specs.Rows.{no-node, Clear}
-use Rattle.claims.specs.Boards.{truths-in, Agrees, pasted}
+use Rattle.claims.specs.Boards.{truths-in, pasted}
 use Rattle.claims.proofs.Truthful.{state-is}
 use Rattle.claims.proofs.Pastes.{pasted-none, node-more, pasted-agrees}
 use Rattle.claims.proofs.judge.fill_node.Needs as need
@@ -43,10 +42,9 @@ loop-state-again g c =
     let s = c .loop-state .state in
     let inside : s < M .states = omega (arith, c .states-n .ensures) in
     let agrees = pasted-agrees M T i _ (c .args .truth .now) (c .loop-state .truth) (b .rows) (b .agrees) (c .loop-state .inv .0) in
-    let value = c .byte-in-value .ensures .value ∙ ap byte (state-is M t (c .loop-state .truth) i agrees (b .sits) (c .pre .node) s inside) in
-    (
+    let value = c .byte-in-value .ensures .value ∙ ap byte (state-is M t (c .loop-state .truth) i agrees (b .sits) (c .pre .node) s inside) in (
       ap (λ n. set (c .loop-state .truth) (i * n + s) (c .byte-in-value .result)) (c .states-n .ensures)
-      ∙ node-more (λ x. byte (at-node T i x)) (i * M .states) s _ (c .args .truth .now) (c .loop-state .truth) (omega (arith, c .pre .room)) (c .loop-state .inv .0) value,
+          ∙ node-more (λ x. byte (at-node T i x)) (i * M .states) s _ (c .args .truth .now) (c .loop-state .truth) (omega (arith, c .pre .room)) (c .loop-state .inv .0) value,
       c .byte-in-value .ensures .row ∙ c .loop-state .inv .1,
     )
 

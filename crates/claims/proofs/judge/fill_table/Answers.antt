@@ -1,7 +1,4 @@
-use mathlib.Core.Path.{_≡_, refl, ap, _∙_, sym, subst}
-use mathlib.Core.List.{List}
-use Prim.Native.Nat.{ℕ, _*_, _≤_, _<_}
-use native.Mathlib.Nat.{mul-le-mul-right, suc-mul}
+use mathlib.Core.Path.{_≡_, refl, ap, _∙_}
 use native.Mathlib.Omega.{arith}
 use lib.ListN.{length, getD}
 use Rattle.claims.specs.Verdicts.{bytes, over}
@@ -35,8 +32,7 @@ fill-node-requires g c κs =
 
 pub loop-i-again : need.loop-i-again
 loop-i-again g c =
-    let M = g .S·System .meaning (c .args .system .now) in
-    (
+    let M = g .S·System .meaning (c .args .system .now) in (
       table-more (truths-in M (c .args .tables)) (M .states) (c .loop-i .i) _ (c .args .truth .now) (c .loop-i .truth) _ refl (c .loop-i .inv .0) (c .fill-node .ensures .truth),
       c .fill-node .ensures .row ∙ c .loop-i .inv .1,
     )

@@ -1,4 +1,4 @@
-use mathlib.Core.Path.{_≡_, sym, subst, _∙_}
+use mathlib.Core.Path.{sym, subst, _∙_}
 use mathlib.Core.List.{List, []}
 use Prim.Native.Nat.{ℕ, _≤_, _<_}
 use native.Mathlib.Omega.{arith}
@@ -37,8 +37,7 @@ loop-place-again g c =
     let M = g .S·System .meaning (c .args .system .now) in
     let p = some-of (of-node (truths-in M (c .args .tables))) (entries (c .args .tables .alternatives .now) (c .args .run)) in
     let mvs = M .moves (c .args .state) (c .args .action) in
-    let h : c .loop-place .place < length mvs = omega (arith, c .moves-count .ensures) in
-    (
+    let h : c .loop-place .place < length mvs = omega (arith, c .moves-count .ensures) in (
       any-miss p mvs (c .loop-place .place) [] (c .loop-place .inv .0) h (sym (c .if-some-holds .ensures tt .value)),
       c .some-holds .ensures .row ∙ c .loop-place .inv .1,
     )

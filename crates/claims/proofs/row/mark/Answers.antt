@@ -1,7 +1,6 @@
-use mathlib.Core.Path.{_≡_, ap, _∙_, subst}
+use mathlib.Core.Path.{ap, _∙_, subst}
 use Prim.Native.Nat.{_≤_, _<_}
 use native.Mathlib.Omega.{arith}
-use lib.ListN.{length, getD, take}
 use Rattle.std.specs.shelf.Lists.{All}
 use Rattle.std.proofs.shelf.Lists.{take-all}
 use Rattle.std.proofs.shelf.Elements.{all-getD, all-weaker}
@@ -18,8 +17,7 @@ pub loop-d-again : need.loop-d-again
 loop-d-again c =
     let i = c .loop-d .d-index in
     let wanted = c .args .wanted .now in
-    let near = all-getD (λ d. d < c .args .upto) wanted i 0 (c .loop-d-test .taken) (c .pre .before) in
-    (
+    let near = all-getD (λ d. d < c .args .upto) wanted i 0 (c .loop-d-test .taken) (c .pre .before) in (
       mark-more wanted i (c .loop-d-test .taken) (c .args .row .now) (c .loop-d .row) (c .loop-d .inv .0),
       around-more wanted i (c .loop-d-test .taken) (c .loop-d .low) (c .loop-d .high) _ _ (c .min-low .ensures) (c .max-high .ensures) (c .loop-d .inv .1),
       omega (arith, near, c .max-high .ensures, c .loop-d .inv .2),
