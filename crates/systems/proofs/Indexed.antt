@@ -1,12 +1,12 @@
 -- An index of good records: what it means is sound, and what it answers.
-use Prim.Native.Nat.{ℕ, _+_, _*_, _/_, _%_, _≤_, _<_}
+use Prim.Native.Nat.{ℕ, _+_, _/_, _%_, _≤_, _<_}
 use mathlib.Core.Path.{_≡_, refl, sym, ap, subst, fun-ext, _∙_}
 use mathlib.Core.List.{List, [], _∷_, map}
-use mathlib.Core.Bool.{Bool, true, false, cond, _&&_}
+use mathlib.Core.Bool.{Bool, true, false, _&&_}
 use mathlib.Core.Logic.{_⊎_, inl, inr}
 use native.Mathlib.Omega.{arith}
 use lib.Dec.{eqb, ltb, leb}
-use lib.ListN.{length, getD, take, length-map}
+use lib.ListN.{length, getD, length-map}
 use Rattle.std.specs.declared.option.Option.the-variants.{Some, None}
 use Rattle.std.specs.shelf.Lists.{All}
 use Rattle.std.specs.shelf.Maps.{nth}
@@ -16,7 +16,7 @@ use Rattle.std.proofs.shelf.Lists.{getD-past, getD-map, take-all}
 use Rattle.std.proofs.shelf.Tests.{and-from, and-left, and-right, and-parts, eq-eqb, eqb-true, lt-ltb, le-ltb, le-leb, leb-true, cond-true, cond-false, cases-lt, cases-bool}
 use Rattle.systems.specs.declared.system.Target.{Target}
 use Rattle.systems.specs.declared.records.MoveRecord.{MoveRecord}
-use Rattle.systems.specs.Meaning.{Meaning, Move, Sound, Good, Between, total}
+use Rattle.systems.specs.Meaning.{Move, Sound, Good, Between, total}
 use Rattle.systems.specs.Tables.{every, asked, row, no-record, run, good-run, longest, table-meaning, cell-of}
 use Rattle.systems.specs.Mounts.{first-fault}
 use Rattle.systems.specs.Index.{listed, index-meaning, good-record, good-list, good-index, Listed, Grouped}
@@ -96,18 +96,18 @@ module _ (n b : ℕ) (ts : List Target) where
     none-listed k a e = cond-false (ltb k n && ltb a 32) (getD cells (cell-of k a) []) [] e
 
     pub sound-index : Between 1 64 n → Between 2 64 b → Sound (index-meaning n b cells ts)
-    sound-index hn hb = record
-      { ruled = record
-        { states-low = hn .0
-        ; mass-low = omega arith
-        ; breadth-low = hb .0
-        ; past-states = λ k a h. ap (map (run ts)) (none-listed k a (and-left (ltb k n) (ltb a 32) (le-ltb k n h)))
-        ; past-actions = λ k a h. ap (map (run ts)) (none-listed k a (and-right (ltb k n) (ltb a 32) (le-ltb a 32 h)))
-        ; few = λ k a. omega (arith, length-map (listed n cells k a) (run ts), few-listed k a)
-        ; each = λ k a. all-map (Good n 1000 b) (run ts) (listed n cells k a) (all-weaker (Fit n b ts) (λ r. Good n 1000 b (run ts r)) good-move (listed n cells k a) (fits-listed k a .each))
-        }
-      ; limited = record { states-high = omega (arith, hn .1); mass-high = omega arith; breadth-high = omega (arith, hb .1) }
-      }
+    sound-index hn hb = record {
+      ruled = record {
+        states-low = hn .0;
+        mass-low = omega arith;
+        breadth-low = hb .0;
+        past-states = λ k a h. ap (map (run ts)) (none-listed k a (and-left (ltb k n) (ltb a 32) (le-ltb k n h)));
+        past-actions = λ k a h. ap (map (run ts)) (none-listed k a (and-right (ltb k n) (ltb a 32) (le-ltb a 32 h)));
+        few = λ k a. omega (arith, length-map (listed n cells k a) (run ts), few-listed k a);
+        each = λ k a. all-map (Good n 1000 b) (run ts) (listed n cells k a) (all-weaker (Fit n b ts) (λ r. Good n 1000 b (run ts r)) good-move (listed n cells k a) (fits-listed k a .each));
+      };
+      limited = record { states-high = omega (arith, hn .1); mass-high = omega arith; breadth-high = omega (arith, hb .1) };
+    }
 
 pub in-range : (n : ℕ) (cells : List (List MoveRecord)) (k a : ℕ) → k < n → a < 32 → listed n cells k a ≡ getD cells (cell-of k a) []
 in-range n cells k a p q = cond-true (ltb k n && ltb a 32) (getD cells (cell-of k a) []) [] (and-from (ltb k n) (ltb a 32) (lt-ltb k n p) (lt-ltb a 32 q))
@@ -160,13 +160,14 @@ module _ (n : ℕ) (rs : List MoveRecord) (ts : List Target) (cells : List (List
   index-good = all-every (good-list n (longest rs (length rs)) ts) cells
       (all-from-getD (λ xs. good-list n (longest rs (length rs)) ts xs ≡ true) cells []
       (λ c l. subst (λ (xs : List MoveRecord). good-list n (longest rs (length rs)) ts xs ≡ true) (sym (cell-list c l))
-        (list-fits n (longest rs (length rs)) ts (asked (c / 32) (c % 32) rs) (few-all rs (c / 32) (c % 32)) (asked-all n rs ts ok (Fit n (longest rs (length rs)) ts) all-fit (c / 32) (c % 32)))))
+      (list-fits n (longest rs (length rs)) ts (asked (c / 32) (c % 32) rs) (few-all rs (c / 32) (c % 32)) (asked-all n rs ts ok (Fit n (longest rs (length rs)) ts) all-fit (c / 32) (c % 32)))))
 
   same-list : (k a : ℕ) → listed n cells k a ≡ asked k a rs
   same-list k a = go (cases-lt k n) (cases-lt a 32)
     where
       none : ltb k n && ltb a 32 ≡ false → asked k a rs ≡ [] → listed n cells k a ≡ asked k a rs
       none e z = cond-false (ltb k n && ltb a 32) (getD cells (cell-of k a) []) [] e ∙ sym z
+
       go : (k < n) ⊎ (n ≤ k) → (a < 32) ⊎ (32 ≤ a) → listed n cells k a ≡ asked k a rs
       go (inl p) (inl q) = in-range n cells k a p q ∙ listed-asked k a p q
       go (inl p) (inr q) = none (and-right (ltb k n) (ltb a 32) (le-ltb a 32 q)) (none-acts n rs ts ok k a q)

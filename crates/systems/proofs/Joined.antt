@@ -1,14 +1,14 @@
 -- A set of bits with one more.
 use Prim.Native.Nat.{ℕ, suc, _+_, _*_, _/_, _%_, _^_, _-_, _≤_, _<_, max}
 use mathlib.Core.Path.{_≡_, refl, sym, ap, _∙_}
-use mathlib.Core.Bool.{Bool, true, false, cond, _||_}
+use mathlib.Core.Bool.{_||_}
 use mathlib.Core.Logic.{_⊎_, inl, inr}
 use native.Mathlib.Omega.{arith}
 use native.Mathlib.Nat.{div-eq-of-lt, mul-mod-left, pow-suc}
 use lib.Bits.{bitOr, or-step}
-use lib.Dec.{eqb, ltb}
+use lib.Dec.{eqb}
 use Rattle.std.proofs.shelf.Bits.{pow-add, pow-below, shl-shr, or-shr, mod-mul-add, mod-below, one-shl}
-use Rattle.std.proofs.shelf.Tests.{cases-order, cases-lt, cases-eq, eq-eqb, ne-eqb, lt-ltb, le-ltb, cond-true, cond-false}
+use Rattle.std.proofs.shelf.Tests.{cases-order, cases-lt, cases-eq, eq-eqb, ne-eqb, lt-ltb, le-ltb}
 use Rattle.systems.specs.declared.actions.ActionSet.{ActionSet}
 use Rattle.systems.specs.Actions.{has}
 

@@ -2,7 +2,7 @@
 use Prim.Native.Nat.{ℕ, zero, suc, _+_, _≤_, _<_, max}
 use mathlib.Core.Path.{_≡_, refl, sym, ap, subst, _∙_}
 use mathlib.Core.List.{List, [], _∷_}
-use mathlib.Core.Bool.{Bool, true, false, cond, _&&_}
+use mathlib.Core.Bool.{true, false, _&&_}
 use mathlib.Core.Logic.{_⊎_, inl, inr}
 use native.Mathlib.Omega.{arith}
 use native.Mathlib.Numerals.{add-one}
@@ -11,7 +11,7 @@ use lib.ListN.{length, getD, take}
 use Rattle.std.specs.declared.option.Option.{Option}
 use Rattle.std.specs.declared.option.Option.the-variants.{Some, None}
 use Rattle.std.specs.shelf.Lists.{All}
-use Rattle.std.proofs.shelf.Elements.{all-from-getD, all-kept-by, all-weaker, kept-by-passes}
+use Rattle.std.proofs.shelf.Elements.{all-from-getD, all-kept-by, kept-by-passes}
 use Rattle.std.proofs.shelf.Lists.{getD-default, take-all}
 use Rattle.std.proofs.shelf.Tests.{and-parts, eqb-true, ltb-true, leb-true, cond-true, cond-false, cases-lt, cases-bool}
 use Rattle.systems.specs.declared.system.Target.{Target}
@@ -35,11 +35,11 @@ alone n places r e =
     let p = and-parts ((ltb (r .state) n && ltb (r .action) 32) && (leb 1 (r .count) && leb (r .count) 64)) (leb (r .first + r .count) places) e in
     let q = and-parts (ltb (r .state) n && ltb (r .action) 32) (leb 1 (r .count) && leb (r .count) 64) (p .0) in
     let s = and-parts (ltb (r .state) n) (ltb (r .action) 32) (q .0) in
-    record
-    { inside = ltb-true (r .state) n (s .0)
-    ; act = ltb-true (r .action) 32 (s .1)
-    ; small = leb-true (r .count) 64 (and-parts (leb 1 (r .count)) (leb (r .count) 64) (q .1) .1)
-    ; placed = leb-true (r .first + r .count) places (p .1)
+    record {
+      inside = ltb-true (r .state) n (s .0);
+      act = ltb-true (r .action) 32 (s .1);
+      small = leb-true (r .count) 64 (and-parts (leb 1 (r .count)) (leb (r .count) 64) (q .1) .1);
+      placed = leb-true (r .first + r .count) places (p .1);
     }
 
 -- what a state and an action ask is what a record of both asks
@@ -73,6 +73,7 @@ module _ (rs : List MoveRecord) where
     where
       met : length (asked (row rs j .state) (row rs j .action) (take (j + 1) rs)) ≤ longest rs (suc j)
       met = omega arith
+
       go : (asks k a (row rs j) ≡ true) ⊎ (asks k a (row rs j) ≡ false) → length (asked k a (take j rs)) ≤ longest rs j → length (asked k a (take (suc j) rs)) ≤ longest rs (suc j)
       go (inl e) ih =
           subst (λ (x : ℕ). length (asked k a (take x rs)) ≤ longest rs (suc j)) (add-one j)
@@ -106,6 +107,7 @@ module _ (n : ℕ) (rs : List MoveRecord) (ts : List Target) where
     where
       is : (f′ : MountFault) → Some f′ ≡ blamed f′ → row-fault n rs ts i ≡ Some f′ → Some f ≡ blamed f
       is f′ b p = let q : f′ ≡ f = cc in subst (λ (x : MountFault). Some x ≡ blamed x) q b
+
       go : (fits-alone n (length ts) (row rs i) && few-enough rs i (row rs i) ≡ true) ⊎ (fits-alone n (length ts) (row rs i) && few-enough rs i (row rs i) ≡ false) → (good-run n (run ts (row rs i)) ≡ true) ⊎ (good-run n (run ts (row rs i)) ≡ false) → (eqb (total (run ts (row rs i))) 1000 ≡ true) ⊎ (eqb (total (run ts (row rs i))) 1000 ≡ false) → Some f ≡ blamed f
       go (inr a) b c = is (Record i) refl (cond-false _ _ _ a)
       go (inl a) (inr b) c = is (Record i) refl (cond-true _ _ _ a ∙ cond-false _ _ _ b)
@@ -138,6 +140,7 @@ module _ (n : ℕ) (rs : List MoveRecord) (ts : List Target) where
     where
       never : {A : Type 0} (f : MountFault) → row-fault n rs ts i ≡ Some f → A
       never f p = let z : _≡_ {A = ℕ} 0 1 = cc in absurd (omega arith)
+
       go : (fits-alone n (length ts) (row rs i) && few-enough rs i (row rs i) ≡ true) ⊎ (fits-alone n (length ts) (row rs i) && few-enough rs i (row rs i) ≡ false) → (good-run n (run ts (row rs i)) ≡ true) ⊎ (good-run n (run ts (row rs i)) ≡ false) → (eqb (total (run ts (row rs i))) 1000 ≡ true) ⊎ (eqb (total (run ts (row rs i))) 1000 ≡ false) → Fine i
       go (inr a) b c = never (Record i) (cond-false _ _ _ a)
       go (inl a) (inr b) c = never (Record i) (cond-true _ _ _ a ∙ cond-false _ _ _ b)
@@ -145,11 +148,11 @@ module _ (n : ℕ) (rs : List MoveRecord) (ts : List Target) where
       go (inl a) (inl b) (inl c) =
           let r = row rs i in
           let p = and-parts (fits-alone n (length ts) r) (few-enough rs i r) a in
-          record
-          { alone-fits = alone n (length ts) r (p .0)
-          ; few = leb-true (length (asked (r .state) (r .action) (take (i + 1) rs))) 64 (p .1)
-          ; good = b
-          ; whole = eqb-true (total (run ts r)) 1000 c
+          record {
+            alone-fits = alone n (length ts) r (p .0);
+            few = leb-true (length (asked (r .state) (r .action) (take (i + 1) rs))) 64 (p .1);
+            good = b;
+            whole = eqb-true (total (run ts r)) 1000 c;
           }
 
   module _ (ok : first-fault n rs ts (length rs) ≡ None) where
@@ -200,10 +203,10 @@ right-tables n rs ts e = go (cases-bool (sizes n rs ts))
     go (inl s) =
         let p = and-parts (leb 1 n && leb n 64) (leb (length rs) 4096 && leb (length ts) 4096) s in
         let q = and-parts (leb 1 n) (leb n 64) (p .0) in
-        record
-        { states = (leb-true 1 n (q .0), leb-true n 64 (q .1))
-        ; short = leb-true (length ts) 4096 (and-parts (leb (length rs) 4096) (leb (length ts) 4096) (p .1) .1)
-        ; records = sym (cond-true (sizes n rs ts) (first-fault n rs ts (length rs)) (Some (Record 0)) s) ∙ e
+        record {
+          states = (leb-true 1 n (q .0), leb-true n 64 (q .1));
+          short = leb-true (length ts) 4096 (and-parts (leb (length rs) 4096) (leb (length ts) 4096) (p .1) .1);
+          records = sym (cond-true (sizes n rs ts) (first-fault n rs ts (length rs)) (Some (Record 0)) s) ∙ e;
         }
     go (inr f) =
         let q = cond-false (sizes n rs ts) (first-fault n rs ts (length rs)) (Some (Record 0)) f in

@@ -1,26 +1,23 @@
 -- The moves of a pile, by those of its parts.
-use Prim.Native.Nat.{ℕ, zero, suc, _+_, _*_, _/_, _%_, _-_, _≤_, _<_}
-use mathlib.Core.Path.{_≡_, refl, sym, ap, subst, _∙_}
+use Prim.Native.Nat.{ℕ, _+_, _*_, _/_, _%_, _-_, _≤_, _<_}
+use mathlib.Core.Path.{_≡_, refl, sym, ap, _∙_}
 use mathlib.Core.List.{List, [], _∷_, _++_, map}
-use mathlib.Core.Bool.{Bool, true, false, cond}
+use mathlib.Core.Bool.{Bool, true, false}
 use mathlib.Core.Logic.{_⊎_, inl, inr}
 use native.Mathlib.Omega.{arith}
-use native.Mathlib.Nat.{zero-mul, suc-mul, mul-one, one-mul, mul-le-mul}
 use lib.ListN.{length, getD, length-append, length-map}
-use lib.Dec.{ltb}
 use Rattle.std.specs.declared.option.Option.{Option}
 use Rattle.std.specs.declared.option.Option.the-variants.{Some, None}
 use Rattle.std.specs.shelf.Maps.{nth}
-use Rattle.std.specs.shelf.Lists.{All, sumBy}
 use Rattle.std.proofs.shelf.Lists.{getD-append-left, getD-append-right, getD-map, getD-past}
 use Rattle.std.proofs.shelf.Tests.{cases-lt, cond-true, cond-false, lt-ltb, le-ltb}
 use Rattle.std.proofs.shelf.Maps.{nth-getD, nth-past}
 use Rattle.std.proofs.shelf.Bits.{le-div, div-below, mod-below}
 use Rattle.std.proofs.shelf.Elements.{all-getD}
-use Rattle.std.proofs.shelf.Sums.{getD-le-sumBy}
 use Rattle.systems.specs.declared.system.Target.{Target}
-use Rattle.systems.specs.Meaning.{Meaning, Move, Ruled, Good, Aimed, point, total}
-use Rattle.systems.specs.Piles.{cross, over, pair, moves-over, pile-moves, pile, both}
+use Rattle.systems.specs.Meaning.{Meaning, Move, Ruled, Good, point}
+use Rattle.systems.specs.Piles.{cross, over, pair, moves-over, pile-moves, pile}
+use Rattle.systems.specs.Fitted.{both}
 use Rattle.systems.proofs.Cross.{length-cross, getD-cross}
 
 pub both-none : (k : ℕ) (o : Option Target) → both k None o ≡ None

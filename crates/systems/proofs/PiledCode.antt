@@ -1,29 +1,29 @@
 -- What the methods of a pile owe, as facts of numbers and lists.
-use Prim.Native.Nat.{ℕ, zero, suc, _+_, _*_, _/_, _%_, _-_, _≤_, _<_}
+use Prim.Native.Nat.{ℕ, _+_, _*_, _/_, _%_, _-_, _≤_, _<_}
 use mathlib.Core.Path.{_≡_, refl, sym, ap, ap₂, subst, _∙_}
-use mathlib.Core.List.{List, [], _∷_, _++_, map}
-use mathlib.Core.Bool.{Bool, true, false, cond, _&&_}
+use mathlib.Core.List.{List, [], _∷_}
+use mathlib.Core.Bool.{Bool, true, false}
 use mathlib.Core.Logic.{_⊎_, inl, inr}
 use native.Mathlib.Omega.{arith}
-use native.Mathlib.Nat.{mul-le-mul, one-le-mul, mul-comm, mul-one, one-mul, div-one, mod-one, div-eq-of-lt, mod-eq-of-lt, zero-mul}
+use native.Mathlib.Nat.{mul-le-mul, mul-one, one-mul, div-one, mod-one, div-eq-of-lt, mod-eq-of-lt}
 use lib.ListN.{length, getD}
 use lib.Arith.{digits-lt}
-use lib.Dec.{eqb, ltb}
+use lib.Dec.{ltb}
 use Rattle.std.specs.declared.option.Option.{Option}
 use Rattle.std.specs.declared.option.Option.the-variants.{Some, None}
 use Rattle.std.specs.shelf.Maps.{nth}
-use Rattle.std.specs.shelf.Lists.{All, sumBy}
 use Rattle.std.proofs.shelf.Lists.{getD-past, nil-from-length}
 use Rattle.std.proofs.shelf.Maps.{nth-getD, nth-past}
-use Rattle.std.proofs.shelf.Tests.{cases-lt, cases-bool, cond-true, cond-false, and-parts, and-cases, eqb-true, ltb-true, ltb-false, true≢false}
+use Rattle.std.proofs.shelf.Tests.{cases-lt, cases-bool, cond-true, cond-false, and-parts, and-cases, ltb-true, ltb-false}
 use Rattle.std.proofs.shelf.Elements.{all-getD}
 use Rattle.std.proofs.shelf.Sums.{getD-le-sumBy}
 use Rattle.systems.specs.declared.system.Target.{Target}
-use Rattle.systems.specs.Meaning.{Meaning, Move, Ruled, Good, Aimed, point, total}
-use Rattle.systems.specs.Piles.{cross, over, pair, moves-over, pile-moves, pile, fitted, agrees, inside, Outside, Split, both, Room}
+use Rattle.systems.specs.Meaning.{Meaning, Move, Ruled, Good, Aimed, point}
+use Rattle.systems.specs.Piles.{over, pair, moves-over, pile-moves, pile}
+use Rattle.systems.specs.Fitted.{fitted, agrees, inside, Outside, Split, both, Room}
 use Rattle.systems.proofs.Cross.{length-cross}
-use Rattle.systems.proofs.Piled.{inside-moves, outside-moves, shared-moves, apart-moves, shared-count, apart-count, shared-move, upper-move, lower-move, nil-cross, cross-nil, nth-pair, good-move}
-use Rattle.systems.proofs.PiledSound.{Same, same-numbers, sum-le-product, sound-piled, upper-below, lower-below}
+use Rattle.systems.proofs.Piled.{inside-moves, outside-moves, shared-moves, shared-count, apart-count, shared-move, upper-move, lower-move, cross-nil, nth-pair, good-move}
+use Rattle.systems.proofs.PiledSound.{Same, same-numbers, sum-le-product, upper-below, lower-below}
 
 -- a target that a ruled system may answer
 abbrev pub Held : ℕ → ℕ → Option Target → Type 0
@@ -48,6 +48,7 @@ module _ (S : Meaning) (s : Ruled S) where
           let aim = all-getD (Aimed (S .states)) mv j d l (g .aimed) in
           rw (nth-getD mv j d l) (aim .inside, omega (arith, le, g .whole))
       at mv g (inr p) = rw (nth-past mv j p) tt
+
       go : (i < length (S .moves k a)) ⊎ (length (S .moves k a) ≤ i) → Held (S .states) (S .mass) (nth (getD (S .moves k a) i []) j)
       go (inl l) = at (getD (S .moves k a) i []) (good-move S s k a i l) (cases-lt j (length (getD (S .moves k a) i [])))
       go (inr g) = rw (getD-past (S .moves k a) i [] g) tt
@@ -82,6 +83,7 @@ moves-outside {A} {n} {m} {b} {U} {L} {s} h a = go (cases-bool (agrees n m b (pi
   where
     none : agrees n m b (pile A U L) ≡ false → fitted n m b (pile A U L) .moves s a ≡ []
     none f = cond-false (agrees n m b (pile A U L)) (pile-moves A U L s a) [] f
+
     go : (agrees n m b (pile A U L) ≡ true) ⊎ (agrees n m b (pile A U L) ≡ false) → (ltb s n ≡ false) ⊎ (agrees n m b (pile A U L) ≡ false) → fitted n m b (pile A U L) .moves s a ≡ []
     go (inr f) g = none f
     go (inl t) (inr g) = none g
@@ -119,11 +121,6 @@ module _ {A : ℕ → Bool} {n m b : ℕ} {U L : Meaning} {s u v : ℕ} (h : Spl
       pub few-shared : up * low ≤ 1073741824
       few-shared =
           let p : up * low ≤ U .breadth * L .breadth = mul-le-mul (omega (arith, h .upper-ruled .few u a)) (omega (arith, h .lower-ruled .few v a)) in
-          omega (arith, numbers .breadth-same, h .narrow)
-
-      pub few-apart : up + low ≤ 1073741824
-      few-apart =
-          let p = sum-le-product (U .breadth) (L .breadth) up low (h .upper-ruled .breadth-low) (h .lower-ruled .breadth-low) (omega (arith, h .upper-ruled .few u a)) (omega (arith, h .lower-ruled .few v a)) in
           omega (arith, numbers .breadth-same, h .narrow)
 
     pub short-shared : (i j : ℕ) {x y : ℕ} → x ≡ length (getD (U .moves u a) i []) → y ≡ length (getD (L .moves v a) j []) → x * y ≤ 1073741824

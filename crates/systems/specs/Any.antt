@@ -1,6 +1,4 @@
 -- What a system of any kind means.
-use mathlib.Core.List.{map}
-use Rattle.std.specs.Of.Vec.{vec-items}
 use Rattle.systems.specs.declared.any.AnySystem.{AnySystem}
 use Rattle.systems.specs.declared.any.AnySystem.the-variants.{Component, Lane, Empty}
 use Rattle.systems.specs.contracts.component.ComponentSystem.the-impl as component

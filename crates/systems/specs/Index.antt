@@ -15,12 +15,12 @@ abbrev pub listed : ℕ → List (List MoveRecord) → ℕ → ℕ → List Move
 listed n cells k a = cond (ltb k n && ltb a 32) (getD cells (cell-of k a) []) []
 
 abbrev pub index-meaning : ℕ → ℕ → List (List MoveRecord) → List Target → Meaning
-index-meaning n b cells ts = record
-  { states = n
-  ; mass = 1000
-  ; breadth = b
-  ; moves = λ k a. map (run ts) (listed n cells k a)
-  }
+index-meaning n b cells ts = record {
+  states = n;
+  mass = 1000;
+  breadth = b;
+  moves = λ k a. map (run ts) (listed n cells k a);
+}
 
 -- the record has a whole move of at most b targets, each in one of n states, among the target records
 abbrev pub good-record : ℕ → ℕ → List Target → MoveRecord → Bool

@@ -39,12 +39,12 @@ longest rs zero = 2
 longest rs (suc i) = max (longest rs i) (max (row rs i .count) (length (asked (row rs i .state) (row rs i .action) (take (i + 1) rs))))
 
 abbrev pub table-meaning : ℕ → List MoveRecord → List Target → Meaning
-table-meaning n rs ts = record
-  { states = n
-  ; mass = 1000
-  ; breadth = longest rs (length rs)
-  ; moves = λ k a. map (run ts) (asked k a rs)
-  }
+table-meaning n rs ts = record {
+  states = n;
+  mass = 1000;
+  breadth = longest rs (length rs);
+  moves = λ k a. map (run ts) (asked k a rs);
+}
 
 -- the record keeps the rules that ask for no other record, where there are so many target records
 abbrev pub fits-alone : ℕ → ℕ → MoveRecord → Bool

@@ -26,7 +26,9 @@ impl ActionSet {
         if action > 31 {
             return None;
         }
-        Some(ActionSet { bits: self.bits | 1 << action })
+        Some(ActionSet {
+            bits: self.bits | 1 << action,
+        })
     }
 
     pub fn contains(&self, action: u32) -> bool

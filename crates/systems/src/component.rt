@@ -13,15 +13,17 @@ ghost use Rattle.systems.specs.Index.{index-meaning, good-index, Listed, Group
 ghost use Rattle.systems.specs.Meaning.{Between};
 ghost use Rattle.systems.specs.Mounts.{mount-fault, blamed};
 ghost use Rattle.systems.specs.Tables.{table-meaning};
-use std::alloc::AllocError;
-use std::alloc::Global;
 use crate::fault::MountFault;
 use crate::records::MoveRecord;
 use crate::system::System;
 use crate::system::Target;
 use crate::tables::cell;
 use crate::tables::survey;
+use std::alloc::AllocError;
+use std::alloc::Global;
 
+// The moves of each state and action are a list of records of their own, so that every question is
+// answered in constant time.
 #[derive(Drop)]
 pub struct Component {
     states: u32,
@@ -56,7 +58,11 @@ fn put(cells: &mut Vec<Vec<MoveRecord>>, at: usize, r: MoveRecord) -> Result<(),
 }
 
 // The records by state and action, in the order of the table.
-fn grouped(heap: Global, states: u32, rows: &[MoveRecord]) -> Result<Vec<Vec<MoveRecord>>, AllocError>
+fn grouped(
+    heap: Global,
+    states: u32,
+    rows: &[MoveRecord],
+) -> Result<Vec<Vec<MoveRecord>>, AllocError>
     requires { ⌜ ((i : ℕ) → (d : MoveRecord) → i < length (now rows) → (getD (now rows) i d .state < states) × (getD (now rows) i d .action < 32)) ⌝ }
     ensures { λ r. ⌜ made r (λ v. Grouped states (now (rows .entry)) (length (now (rows .entry))) (map vec-items (vec-items v))) ⌝ }
 {
@@ -68,8 +74,13 @@ fn grouped(heap: Global, states: u32, rows: &[MoveRecord]) -> Result<Vec<Vec<Mov
 }
 
 impl Component {
-    // A component of so many states, with the moves and targets of the tables.
-    pub fn mount(heap: Global, states: u32, moves: &[MoveRecord], targets: &[Target]) -> Result<Component, MountFault>
+    // The component that two tables make: what it means is what the tables mean.
+    pub fn mount(
+        heap: Global,
+        states: u32,
+        moves: &[MoveRecord],
+        targets: &[Target],
+    ) -> Result<Component, MountFault>
         ensures { λ r. ⌜ elim r [ Ok v ↦ (mount-fault states (now (moves .entry)) (now (targets .entry)) ≡ None) × (index-meaning (v .states) (v .breadth) (map vec-items (vec-items (v .cells))) (vec-items (v .targets)) ≡ table-meaning states (now (moves .entry)) (now (targets .entry))) | Err f ↦ mount-fault states (now (moves .entry)) (now (targets .entry)) ≡ blamed f ] ⌝ }
     {
         let breadth = survey(states, moves, targets)?;
@@ -79,7 +90,12 @@ impl Component {
         let Ok(targets) = Vec::from_slice(heap, targets) else {
             return Err(MountFault::NoMemory);
         };
-        Ok(Component { states, breadth, cells, targets })
+        Ok(Component {
+            states,
+            breadth,
+            cells,
+            targets,
+        })
     }
 
     // The records of a state and an action.

@@ -1,12 +1,12 @@
-// A lane: jobs are put and taken, and a put may be lost.
+// A lane: jobs are put and taken, and a put may be lost. Its state is the number of waiting jobs.
 ghost use mathlib.Core.Path.{_≡_};
 ghost use mathlib.Core.Bool.{true, false};
 ghost use Prim.Native.Nat.{_≤_, _<_};
 ghost use Rattle.std.specs.declared.result.Result.the-variants.{Ok, Err};
 ghost use Rattle.systems.specs.Meaning.{Between};
 ghost use Rattle.systems.specs.Kinds.{lane-meaning, lane-numbers};
-use crate::system::System;
 use crate::fault::Fault;
+use crate::system::System;
 use crate::system::Target;
 
 #[derive(Clone, Copy)]
@@ -82,15 +82,24 @@ pub impl System for Lane as LaneSystem {
         }
         if action == self.put && state < self.capacity {
             if index == 0 {
-                return Some(Target { state: state + 1, weight: (1000 - self.loss) as u64 });
+                return Some(Target {
+                    state: state + 1,
+                    weight: (1000 - self.loss) as u64,
+                });
             }
             if index == 1 && self.loss > 0 {
-                return Some(Target { state, weight: self.loss as u64 });
+                return Some(Target {
+                    state,
+                    weight: self.loss as u64,
+                });
             }
             return None;
         }
         if action == self.take && 0 < state && state <= self.capacity && index == 0 {
-            return Some(Target { state: state - 1, weight: 1000 });
+            return Some(Target {
+                state: state - 1,
+                weight: 1000,
+            });
         }
         None
     }

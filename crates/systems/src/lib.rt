@@ -1,4 +1,4 @@
-// Systems: what answers the six questions, and what the answers mean.
+// Systems: what answers the six questions, what the answers mean, and the kinds of systems.
 pub mod actions;
 pub mod any;
 pub mod component;

@@ -1,17 +1,23 @@
 // A system over another.
 ghost use mathlib.Core.Path.{_≡_};
-ghost use Prim.Native.Nat.{_≤_};
 ghost use Rattle.std.specs.Options.{Cases as BySome};
 ghost use Rattle.std.specs.declared.result.Result.the-variants.{Ok, Err};
 ghost use Rattle.std.specs.declared.option.Option.the-variants.{Some, None};
 ghost use Rattle.systems.specs.Actions.{has};
 ghost use Rattle.systems.specs.Meaning.{Between};
-ghost use Rattle.systems.specs.Piles.{pile, fitted, inside, Outside, Split, refusal, both, Room};
-use crate::system::System;
+ghost use Rattle.systems.specs.Piles.{pile, refusal};
+ghost use Rattle.systems.specs.Fitted.{fitted, inside, Outside, Split, both, Room};
 use crate::actions::ActionSet;
 use crate::fault::Fault;
+use crate::system::System;
 use crate::system::Target;
 
+const LARGEST_SIZE: u64 = 1_073_741_824;
+
+const LARGEST_MASS: u128 = 1_000_000_000_000_000;
+
+// The upper system over the lower one: they take part together in the actions of the shared set, and
+// move apart in the others.
 #[derive(Drop)]
 pub struct Pile<U: System, L: System> {
     upper: U,
@@ -26,16 +32,17 @@ pub struct Pile<U: System, L: System> {
 }
 
 impl<U: System, L: System> Pile<U, L> {
+    // The pile of two systems, or both of them back with the reason why there is none.
     pub fn new(upper: U, lower: L, shared: ActionSet) -> Result<Pile<U, L>, (U, L, Fault)>
         ensures { λ r. ⌜ elim r [ Ok p ↦ (refusal (U·System .meaning upper) (L·System .meaning lower) ≡ None) × (fitted (p .states) (p .mass) (p .breadth) (pile (has (p .shared)) (U·System .meaning (p .upper)) (L·System .meaning (p .lower))) ≡ pile (has shared) (U·System .meaning upper) (L·System .meaning lower)) | Err e ↦ (refusal (U·System .meaning upper) (L·System .meaning lower) ≡ Some (e .2)) × (e .0 ≡ upper) × (e .1 ≡ lower) ] ⌝ }
     {
         let states = upper.states() as u64 * lower.states() as u64;
         let breadth = upper.breadth() as u64 * lower.breadth() as u64;
-        if states > 1073741824 || breadth > 1073741824 {
+        if states > LARGEST_SIZE || breadth > LARGEST_SIZE {
             return Err((upper, lower, Fault::Size));
         }
         let mass = upper.mass() as u128 * lower.mass() as u128;
-        if mass > 1000000000000000 {
+        if mass > LARGEST_MASS {
             return Err((upper, lower, Fault::Mass));
         }
         Ok(Pile {
@@ -56,7 +63,10 @@ impl<U: System, L: System> Pile<U, L> {
         let states = self.upper.states() as u64 * self.lower.states() as u64;
         let mass = self.upper.mass() as u128 * self.lower.mass() as u128;
         let breadth = self.upper.breadth() as u64 * self.lower.breadth() as u64;
-        state < self.states && states == self.states as u64 && mass == self.mass as u128 && breadth == self.breadth as u64
+        state < self.states
+            && states == self.states as u64
+            && mass == self.mass as u128
+            && breadth == self.breadth as u64
     }
 
     // The states of the two parts in a state of the pile.
@@ -71,7 +81,7 @@ impl<U: System, L: System> Pile<U, L> {
     }
 }
 
-// One target over another, where the lower system has k states.
+// One target over another, where the lower system has `k` states.
 fn joined(k: u32, upper: Option<Target>, lower: Option<Target>) -> Option<Target>
     requires { ⌜ Room k upper lower ⌝ }
     ensures { λ r. ⌜ r ≡ both k upper lower ⌝ }
@@ -109,7 +119,11 @@ pub impl<U: System, L: System> System for Pile<U, L> as PileSystem {
         };
         let up = self.upper.moves(u, action);
         let low = self.lower.moves(v, action);
-        if self.shared.contains(action) { up * low } else { up + low }
+        if self.shared.contains(action) {
+            up * low
+        } else {
+            up + low
+        }
     }
 
     fn targets(&self, state: u32, action: u32, mv: u32) -> u32 {
@@ -121,7 +135,8 @@ pub impl<U: System, L: System> System for Pile<U, L> as PileSystem {
             if low == 0 {
                 return 0;
             }
-            return self.upper.targets(u, action, mv / low) * self.lower.targets(v, action, mv % low);
+            return self.upper.targets(u, action, mv / low)
+                * self.lower.targets(v, action, mv % low);
         }
         let up = self.upper.moves(u, action);
         if mv < up {

@@ -1,6 +1,6 @@
-// The records of a component's tables.
+// The records of the table of moves from which a component is mounted.
 
-// A record of a component's table of moves: its targets are `count` records from `first` on.
+// A move of a state on an action: its targets are the `count` target records from place `first` on.
 #[derive(Clone, Copy, PartialEq, Debug)]
 pub struct MoveRecord {
     pub state: u32,

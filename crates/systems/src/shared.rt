@@ -1,8 +1,8 @@
 // A system held in several places.
 ghost use Rattle.std.specs.Of.Rc.{rc-value};
-use std::rc::Rc;
 use crate::system::System;
 use crate::system::Target;
+use std::rc::Rc;
 
 pub impl<S: System> System for Rc<S> as RcSystem {
     ghost meaning = { λ r. S·System .meaning (rc-value r) };

@@ -1,6 +1,6 @@
 // Whether two tables make a component, and how broad it is.
 ghost use mathlib.Core.Path.{_≡_};
-ghost use Prim.Native.Nat.{ℕ, _+_, _≤_, _<_};
+ghost use Prim.Native.Nat.{_+_, _≤_, _<_};
 ghost use lib.ListN.{length, take, drop};
 ghost use Rattle.std.specs.declared.option.Option.the-variants.{None};
 ghost use Rattle.std.specs.declared.result.Result.the-variants.{Ok, Err};
@@ -13,8 +13,11 @@ use crate::records::MoveRecord;
 use crate::system::Target;
 
 const MOST_STATES: u32 = 64;
+
 const MOST_RECORDS: usize = 4096;
+
 const MOST_LISTED: u32 = 64;
+
 const CELLS: usize = 2048;
 
 // The place of a state and an action among those of all states.
@@ -67,7 +70,13 @@ fn weigh(list: &[Target]) -> u128
 }
 
 // What is wrong with the record at a place, where `earlier` counts the records before it.
-fn fault_at(states: u32, rows: &[MoveRecord], targets: &[Target], earlier: &[u8], i: u32) -> Option<MountFault>
+fn fault_at(
+    states: u32,
+    rows: &[MoveRecord],
+    targets: &[Target],
+    earlier: &[u8],
+    i: u32,
+) -> Option<MountFault>
     requires { ⌜ Reached states (now rows) i (now earlier) ⌝ }
     ensures { λ r. ⌜ r ≡ row-fault states (now (rows .entry)) (now (targets .entry)) i ⌝ }
 {
@@ -115,7 +124,11 @@ fn walk(states: u32, rows: &[MoveRecord], targets: &[Target]) -> Result<u32, Mou
 pub fn survey(states: u32, rows: &[MoveRecord], targets: &[Target]) -> Result<u32, MountFault>
     ensures { λ r. ⌜ elim r [ Ok b ↦ (mount-fault states (now (rows .entry)) (now (targets .entry)) ≡ None) × (b ≡ longest (now (rows .entry)) (length (now (rows .entry)))) | Err f ↦ mount-fault states (now (rows .entry)) (now (targets .entry)) ≡ blamed f ] ⌝ }
 {
-    if states < 1 || states > MOST_STATES || rows.len() > MOST_RECORDS || targets.len() > MOST_RECORDS {
+    if states < 1
+        || states > MOST_STATES
+        || rows.len() > MOST_RECORDS
+        || targets.len() > MOST_RECORDS
+    {
         return Err(MountFault::Record(0));
     }
     walk(states, rows, targets)

@@ -1,10 +1,9 @@
 use Prim.Native.Nat.{ℕ, _+_}
 use mathlib.Core.Path.{_≡_, sym, ap, subst, _∙_}
-use mathlib.Core.List.{List, [], _∷_, _++_, map}
+use mathlib.Core.List.{[], _∷_, _++_, map}
 use native.Mathlib.Omega.{arith}
 use lib.ListN.{length, getD, set, length-map}
 use Rattle.std.specs.Of.Vec.{vec-items}
-use Rattle.systems.specs.declared.records.MoveRecord.{MoveRecord}
 use Rattle.systems.specs.Tables.{no-record, row}
 use Rattle.systems.specs.Index.{Grouped}
 use Rattle.systems.proofs.Tallied.{grouped-none, grouped-more}

@@ -1,8 +1,8 @@
 use Prim.Native.Nat.{_<_}
-use mathlib.Core.Path.{_≡_, sym, ap, _∙_}
+use mathlib.Core.Path.{sym, ap, _∙_}
 use mathlib.Core.List.{List, [], _∷_, _++_, map}
 use native.Mathlib.Omega.{arith}
-use lib.ListN.{length, getD, set}
+use lib.ListN.{length, set}
 use lib.Seq.{map-set, map-set-same}
 use Rattle.std.specs.Of.Vec.{vec-items}
 use Rattle.std.proofs.shelf.Lists.{getD-map}
@@ -21,5 +21,5 @@ returns c =
     let l : c .args .at < length (vec-items (c .args .cells .now)) = omega (arith, c .args .cells .now .ok .0, c .pre) in
     map-set vec-items (vec-items (c .args .cells .now)) (c .args .at) (c .push .last .self)
     ∙ ap (set (map vec-items (vec-items (c .args .cells .now))) (c .args .at))
-      (c .in-Continue-push .ensures tt .items
-      ∙ ap (λ (xs : List MoveRecord). xs ++ c .args .r ∷ []) (ap vec-items (c .index-mut .ensures .value) ∙ sym (getD-map vec-items (vec-items (c .args .cells .now)) (c .args .at) (c .index-mut .result .now) [] l)))
+    (c .in-Continue-push .ensures tt .items
+    ∙ ap (λ (xs : List MoveRecord). xs ++ c .args .r ∷ []) (ap vec-items (c .index-mut .ensures .value) ∙ sym (getD-map vec-items (vec-items (c .args .cells .now)) (c .args .at) (c .index-mut .result .now) [] l)))

@@ -37,14 +37,16 @@ cast-met c = omega (arith, small (need.at·cast-met c .After-cell-c))
 
 pub loop-i-again : need.loop-i-again
 loop-i-again c =
-    let r = reached (need.at·loop-i-again c .After-cell-c) in
-    (none-more (c .args .states) (c .args .rows .now) (c .args .targets .now) (c .loop-i .i) (c .loop-i .inv .0) (c .in-rest .ensures tt),
+    let r = reached (need.at·loop-i-again c .After-cell-c) in (
+      none-more (c .args .states) (c .args .rows .now) (c .args .targets .now) (c .loop-i .i) (c .loop-i .inv .0) (c .in-rest .ensures tt),
       counted-right r (c .args .targets .now) (c .cell-c .ensures) (c .in-rest .ensures tt),
       longest-right r (c .args .targets .now) (c .cell-c .ensures) (c .in-rest .ensures tt) (c .loop-i .inv .2)
-        (c .max-breadth .ensures ∙ ap (λ (x : ℕ). max x (getD (c .loop-i .earlier) (c .cell-c .result) 0 + 1)) (c .max .ensures)))
+          (c .max-breadth .ensures ∙ ap (λ (x : ℕ). max x (getD (c .loop-i .earlier) (c .cell-c .result) 0 + 1)) (c .max .ensures)),
+    )
 
 pub returns : need.returns
 returns c =
-    let e : c .loop-i .i ≡ length (c .args .rows .now) = omega arith in
-    (subst (λ (x : ℕ). first-fault (c .args .states) (c .args .rows .now) (c .args .targets .now) x ≡ None) e (c .loop-i .inv .0),
-      c .loop-i .inv .2 ∙ ap (longest (c .args .rows .now)) e)
+    let e : c .loop-i .i ≡ length (c .args .rows .now) = omega arith in (
+      subst (λ (x : ℕ). first-fault (c .args .states) (c .args .rows .now) (c .args .targets .now) x ≡ None) e (c .loop-i .inv .0),
+      c .loop-i .inv .2 ∙ ap (longest (c .args .rows .now)) e,
+    )

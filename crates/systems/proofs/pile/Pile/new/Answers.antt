@@ -14,4 +14,4 @@ ghost-result g c =
     let m2 : 1 ≤ c .mass-2 .result = omega (arith, sl .mass-low, c .mass-2 .ensures) in
     let b1 : 2 ≤ c .breadth .result = omega (arith, su .breadth-low, c .breadth .ensures) in
     let b2 : 2 ≤ c .breadth-2 .result = omega (arith, sl .breadth-low, c .breadth-2 .ensures) in
-    ((one-le-mul n1 n2, c .if-states-gt1073741824 .left), ((one-le-mul m1 m2, c .if-mass-gt1000000000000000 .left), ((sum-le-product (c .breadth .result) (c .breadth-2 .result) 0 2 b1 b2 (omega arith) b2, c .if-breadth-gt1073741824 .left), tt)))
+    ((one-le-mul n1 n2, c .if-states-gt-LARGEST-SIZE .left), ((one-le-mul m1 m2, c .if-mass-gt-LARGEST-MASS .left), ((sum-le-product (c .breadth .result) (c .breadth-2 .result) 0 2 b1 b2 (omega arith) b2, c .if-breadth-gt-LARGEST-SIZE .left), tt)))
