@@ -2,6 +2,7 @@
 pub mod append;
 pub mod draft;
 pub mod fault;
+pub mod lexer;
 pub mod node;
 pub mod token;
 pub mod tokens;
