@@ -2,7 +2,7 @@
 use mathlib.Core.Bool.{true}
 use mathlib.Core.List.{List}
 use mathlib.Core.Path.{_≡_, refl, sym, ap, subst, _∙_}
-use Prim.Native.Nat.{ℕ, _+_, _≤_, max}
+use Prim.Native.Nat.{ℕ, _+_, _-_, _*_, _≤_, _<_, max}
 use native.Mathlib.Omega.{arith}
 use denote.Ref.{now, RefT}
 use lib.ListN.{length}
@@ -13,6 +13,10 @@ use Rattle.formulas.specs.declared.fault.GrammarFault.{GrammarFault}
 use Rattle.formulas.specs.declared.words.Words.{Words}
 use Rattle.formulas.specs.Grammar.{Item, items, Out, then}
 use Rattle.formulas.specs.Readers.{Taken, Moved, Takes, Itself}
+
+-- the unread bytes and a rank below three, as one number
+abbrev pub measure : Words → ℕ → ℕ
+measure w rank = 3 * (length (now (w .text)) - w .pos) + rank
 
 -- a value without a word
 pub nothing-read : {A X : Type 0} {V : A → X → Type 0} {w : Words} {v : A} {x : X} → V v x → Takes 0 (λ stop ws. Ok (v, ws)) V w (Ok x) w
@@ -59,3 +63,7 @@ module _ {A B X Y : Type 0} {V : A → X → Type 0} {U : B → Y → Type 0} {f
 pub and-so : {A B Y : Type 0} {U : B → Y → Type 0} {f : ℕ → List Item → Out A} {w m v : Words} {d e : ℕ} {r : Result Y GrammarFault} {x : A} (k : ℕ → A → List Item → Out B) →
     Takes d f Itself w (Ok x) m → Takes e (λ stop ws. k stop x ws) U m r v → Takes d (λ stop ws. then (f stop ws) (k stop)) U w r v
 and-so {U} {m} {v} {e} {r} k h more = and-then k h (λ a i. subst (λ b. Takes e (λ stop ws. k stop b ws) U m r v) (sym i) more)
+
+-- a reader that takes a step at least one byte long falls below three ranks
+pub falls : {A X : Type 0} {f : ℕ → List Item → Out A} {V : A → X → Type 0} {w m : Words} {x : X} (i j : ℕ) → j < 3 → Takes 1 f V w (Ok x) m → measure m j < measure w i
+falls {w} {m} i j h t = let n : length (now (m .text)) ≡ length (now (w .text)) = ap (λ u. length (now u)) (t .same) in let v = t .moved in omega arith

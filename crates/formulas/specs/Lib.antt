@@ -13,3 +13,5 @@ pub mod Reading
 pub mod Spelling
 pub mod Append
 pub mod Readers
+pub mod Productions
+pub mod Stores

@@ -76,17 +76,17 @@ pub fn expect(words: &mut Words, token: Token) -> Result<(), GrammarFault>
 }
 
 // A numeral from `low` to `high`.
-pub fn number(words: &mut Words, low: u32, high: u32) -> Result<u32, GrammarFault>
+pub fn number(words: &mut Words, low: u64, high: u64) -> Result<u64, GrammarFault>
     ensures { λ r. ⌜ Takes 1 (numbered low high) Itself (now (words .entry)) r (now (words .exit)) ⌝ }
 {
     let x = lexeme(words)?;
     match x.token {
-        Token::Numeral(n) => ranged(n, low, high, x.place),
+        Token::Numeral(n) => ranged(u64::from(n), low, high, x.place),
         _ => Err(GrammarFault::Misplaced(x.place)),
     }
 }
 
-fn ranged(n: u32, low: u32, high: u32, place: usize) -> Result<u32, GrammarFault>
+fn ranged(n: u64, low: u64, high: u64, place: usize) -> Result<u64, GrammarFault>
     ensures { λ r. ⌜ r ≡ rangedOf low high place n ⌝ }
 {
     if low <= n && n <= high {

@@ -2,8 +2,10 @@
 pub mod append;
 pub mod draft;
 pub mod fault;
+mod grammar;
 pub mod lexer;
 pub mod node;
+pub mod summands;
 pub mod token;
 pub mod tokens;
 pub mod words;
