@@ -5,7 +5,9 @@ use mathlib.Core.Logic.{⊎-elim}
 use mathlib.Core.Path.{_≡_, refl, sym, ap, _∙_}
 use Prim.Native.Nat.{ℕ, zero, suc, _+_, _-_, _≤_, _<_}
 use native.Mathlib.Omega.{arith}
+use denote.Ref.{now}
 use lib.Dec.{eqb, leb, lit<}
+use lib.ListN.{length}
 use Rattle.std.proofs.shelf.Tests.{cases-bool, cond-false, and-parts, leb-true, leb-false, le-leb, lt-leb, ne-eqb}
 use Rattle.std.proofs.shelf.Ways.{tells}
 use Rattle.std.specs.declared.option.Option.{Option}
@@ -15,12 +17,14 @@ use Rattle.formulas.specs.declared.token.Lexeme.{Lexeme}
 use Rattle.formulas.specs.declared.token.Start.{Start}
 use Rattle.formulas.specs.declared.token.Start.the-variants.{Constant, Inside}
 use Rattle.formulas.specs.declared.token.Token.the-variants.{Open, Close, True, False, And, Not, Dia, Here, Prob, AtLeast, Plus, Times, Numeral}
-use Rattle.formulas.specs.Grammar.{Item, Out, then, next, is, expect, number, ranged, value, nought, misplaced, too-many, closed, begun, headed, sum-begun, several, term, sum, quantity, element}
+use Rattle.formulas.specs.declared.words.Words.{Words}
+use Rattle.formulas.specs.Grammar.{Item, items, Out, then, next, is, expect, number, ranged, value, nought, misplaced, too-many, closed, begun, headed, sum-begun, several, term, sum, quantity, element}
 use Rattle.formulas.specs.Lines.{Sort, state, dist}
 use Rattle.formulas.specs.Productions.{a-term, inside, pair, negation, diamond, standing, threshold, a-sum, sum-inside, a-quantity, a-product, one-product, products, an-element}
-use Rattle.formulas.specs.Readers.{behind, starting, starts, sum-starting, sum-starts, following, another, confirmed, prob-starting, prob-starts}
+use Rattle.formulas.specs.Readers.{behind, starting, starts, sum-starting, sum-starts, following, another, confirmed, prob-starting, prob-starts, Takes, Itself}
 use Rattle.formulas.specs.Trees.{Tree, leaf, Products, none, product}
 use Rattle.formulas.proofs.Codes.{is-not}
+use Rattle.formulas.proofs.Taking.{read-itself}
 
 -- steps in a row
 pub then-then : {A B C : Type 0} (o : Out A) (f : A → List Item → Out B) (g : B → List Item → Out C) → then (then o f) g ≡ then o (λ a r. then (f a r) g)
@@ -31,6 +35,11 @@ then-then (Err e) f g = refl
 pub then-same : {A : Type 0} (o : Out A) → then o (λ a r. Ok (a, r)) ≡ o
 then-same (Ok x) = refl
 then-same (Err e) = refl
+
+-- the same step, said in another way
+pub then-as : {A B : Type 0} (o : Out A) (f g : A → List Item → Out B) → ((a : A) (r : List Item) → f a r ≡ g a r) → then o f ≡ then o g
+then-as (Ok x) f g h = h (x .0) (x .1)
+then-as (Err e) f g h = refl
 
 then-cond : {A B : Type 0} (b : Bool) (x y : Out A) (k : A → List Item → Out B) → then (cond b x y) k ≡ cond b (then x k) (then y k)
 then-cond true x y k = refl
@@ -230,7 +239,7 @@ module _ (room : ℕ) (x : Lexeme) (stop : ℕ) (ws : List Item) where
   no-sum a b = rw (is-not Times (lit< tt) x a, is-not Plus (lit< tt) x b)
 
 -- a number is in its range
-pub number-low : (low high stop : ℕ) (ws : List Item) (n : ℕ) (rest : List Item) → number low high stop ws ≡ Ok (n, rest) → n ≤ high
+number-low : (low high stop : ℕ) (ws : List Item) (n : ℕ) (rest : List Item) → number low high stop ws ≡ Ok (n, rest) → n ≤ high
 number-low low high stop ws n rest e = from (next stop ws) e
   where
     within : (p : ℕ) (v : Option ℕ) (r : List Item) → ranged low high p v r ≡ Ok (n, rest) → n ≤ high
@@ -244,3 +253,6 @@ number-low low high stop ws n rest e = from (next stop ws) e
     from : (o : Out Lexeme) → then o (λ x r. ranged low high (x .place) (value (x .token)) r) ≡ Ok (n, rest) → n ≤ high
     from (Err f) i = absurd (grind arith)
     from (Ok p) i = within (p .0 .place) (value (p .0 .token)) (p .1) i
+
+pub number-within : (low high : ℕ) {d n : ℕ} {w m : Words} → Takes d (number low high) Itself w (Ok n) m → n ≤ high
+number-within low high {n = n} {w} h = number-low low high (length (now (w .text))) (items (now (w .text)) (w .pos)) n _ (read-itself h)

@@ -12,10 +12,10 @@ use Rattle.formulas.specs.declared.node.StateNode.the-variants.{Step}
 use Rattle.formulas.specs.declared.node.DistNode.the-variants.{Sum}
 use Rattle.formulas.specs.declared.node.Term.{Term}
 use Rattle.formulas.specs.declared.summands.Summands.{Summands}
-use Rattle.formulas.specs.Append.{capped, raised, written}
+use Rattle.formulas.specs.Append.{capped, raised, written, Table, Puts}
 use Rattle.formulas.specs.Layout.{run, constant-node, both-node, non-node, node-table, term-table, alternative-table}
 use Rattle.formulas.specs.Lines.{Sort, state, dist, Line, constant, both, non, step, sum}
-use Rattle.formulas.specs.Stores.{Table, Store, extended, added, Small, Counted, Wrote, Factored, Summed, Puts, PutsMove, PutsHere, PutsSum, term-count, term-counts, step-count, step-counts}
+use Rattle.formulas.specs.Stores.{Store, extended, added, Small, Counted, Wrote, Factored, Summed, PutsMove, PutsHere, PutsSum, term-count, term-counts, step-count, step-counts}
 use Rattle.formulas.specs.Trees.{Tree, leaf, conj, neg, dia, here, at-least, Products, none, product, below, below-products, count, terms, lay, lay-products}
 use Rattle.formulas.proofs.Sizes.{term-table-++, alternative-table-++, node-table-++, length-node-table}
 use Rattle.formulas.proofs.Written.{written-++}
@@ -90,38 +90,38 @@ same-table e f = λ i. record { slots = e i; fill = f i }
 unchanged : {X : Type 0} (t : Table X) → t .fill < 4294967295 → t ≡ extended t []
 unchanged t h = let e : t .fill ≡ raised (t .fill) 0 = grind arith in ap (λ n. record { slots = t .slots; fill = n }) e
 
--- a table with one new entry
-put-one : {X : Type 0} {t after : Table X} {x : X} {n : ℕ} → Puts t x n after → after ≡ extended t (x ∷ [])
-put-one p = same-table (p .slots) (p .fill)
+-- a table with new entries
+put : {X : Type 0} {t after : Table X} {xs : List X} {n : ℕ} → Puts t xs n after → after ≡ extended t xs
+put p = same-table (p .slots) (p .fill)
 
-one-counted : {X : Type 0} {t after : Table X} {x : X} {n : ℕ} → Puts t x n after → capped (after .fill) ≡ raised (t .fill) 1
-one-counted {t} {after} p = let e : after .fill ≡ min (t .fill + 1) 4294967295 = p .fill in grind arith
+put-counted : {X : Type 0} {t after : Table X} {xs : List X} {n : ℕ} → Puts t xs n after → capped (after .fill) ≡ raised (t .fill) (length xs)
+put-counted {t} {after} {xs} p = let e : after .fill ≡ min (t .fill + length xs) 4294967295 = p .fill in grind arith
 
 -- a node without entries
 module _ {s : Store} {ns : Table Node} {n : ℕ} where
-  plain-counted : {x : Node} → Puts (s .nodes) x n ns → Counted s 1 0 0 (record { nodes = ns; terms = s .terms; alternatives = s .alternatives })
-  plain-counted p = record { nodes = one-counted p; terms = grind arith; alternatives = grind arith }
+  plain-counted : {x : Node} → Puts (s .nodes) (x ∷ []) n ns → Counted s 1 0 0 (record { nodes = ns; terms = s .terms; alternatives = s .alternatives })
+  plain-counted p = record { nodes = put-counted p; terms = grind arith; alternatives = grind arith }
 
-  pub leaf-wrote : {σ : Sort} {b : Bool} → Puts (s .nodes) (constant-node σ b) n ns → Wrote σ s (record { nodes = ns; terms = s .terms; alternatives = s .alternatives }) (leaf b) n
-  leaf-wrote p =
+  pub leaf-wrote : {σ : Sort} {b : Bool} {x : Node} → x ≡ constant-node σ b → Puts (s .nodes) (x ∷ []) n ns → Wrote σ s (record { nodes = ns; terms = s .terms; alternatives = s .alternatives }) (leaf b) n
+  leaf-wrote e p =
       let c = plain-counted p in
       record
         { counted = counted-as refl refl refl c
         ; number = λ h. omega (arith, p .place)
-        ; laid = λ h. let b = small-before c h in together (put-one p) (unchanged (s .terms) (b .terms)) (unchanged (s .alternatives) (b .alternatives))
+        ; laid = λ h. let b = small-before c h in together (put p ∙ ap (λ y. extended (s .nodes) (y ∷ [])) e) (unchanged (s .terms) (b .terms)) (unchanged (s .alternatives) (b .alternatives))
         }
 
-  plain-added : {x : Node} (l : Line) → Puts (s .nodes) x n ns → Small (record { nodes = ns; terms = s .terms; alternatives = s .alternatives }) → node-table (s .terms .fill) (s .alternatives .fill) (l ∷ []) ≡ x ∷ [] → term-table (l ∷ []) ≡ [] → alternative-table (l ∷ []) ≡ [] → record { nodes = ns; terms = s .terms; alternatives = s .alternatives } ≡ added s (l ∷ [])
+  plain-added : {x : Node} (l : Line) → Puts (s .nodes) (x ∷ []) n ns → Small (record { nodes = ns; terms = s .terms; alternatives = s .alternatives }) → node-table (s .terms .fill) (s .alternatives .fill) (l ∷ []) ≡ x ∷ [] → term-table (l ∷ []) ≡ [] → alternative-table (l ∷ []) ≡ [] → record { nodes = ns; terms = s .terms; alternatives = s .alternatives } ≡ added s (l ∷ [])
   plain-added l p h e f g =
       let b = small-before (plain-counted p) h in
-      together (put-one p ∙ ap (extended (s .nodes)) (sym e)) (unchanged (s .terms) (b .terms) ∙ ap (extended (s .terms)) (sym f)) (unchanged (s .alternatives) (b .alternatives) ∙ ap (extended (s .alternatives)) (sym g))
+      together (put p ∙ ap (extended (s .nodes)) (sym e)) (unchanged (s .terms) (b .terms) ∙ ap (extended (s .terms)) (sym f)) (unchanged (s .alternatives) (b .alternatives) ∙ ap (extended (s .alternatives)) (sym g))
 
 module _ {σ : Sort} {s m : Store} {x : Tree} {a : ℕ} (w : Wrote σ s m x a) where
   -- where the next tree begins
   next-number : Small m → m .nodes .fill ≡ s .nodes .fill + below x + 1
   next-number h = let e = exact (s .nodes .fill) (below x + 1) (m .nodes .fill) (w .counted .nodes) (h .nodes) in omega arith
 
-  pub neg-wrote : {ns : Table Node} {n : ℕ} → Puts (m .nodes) (non-node σ a) n ns → Wrote σ s (record { nodes = ns; terms = m .terms; alternatives = m .alternatives }) (neg x) n
+  pub neg-wrote : {ns : Table Node} {n : ℕ} → Puts (m .nodes) (non-node σ a ∷ []) n ns → Wrote σ s (record { nodes = ns; terms = m .terms; alternatives = m .alternatives }) (neg x) n
   neg-wrote {ns} {n} p =
       let c = plain-counted p in
       record
@@ -132,7 +132,7 @@ module _ {σ : Sort} {s m : Store} {x : Tree} {a : ℕ} (w : Wrote σ s m x a) w
             more-added s m _ _ _ b (w .laid b) (plain-added (non σ a) p h refl refl refl) ∙ ap (λ i. added s (lay σ (s .nodes .fill) x ++ (non σ i ∷ []))) (w .number b)
         }
 
-  pub conj-wrote : {m2 : Store} {y : Tree} {b : ℕ} {ns : Table Node} {n : ℕ} → Wrote σ m m2 y b → Puts (m2 .nodes) (both-node σ a b) n ns → Wrote σ s (record { nodes = ns; terms = m2 .terms; alternatives = m2 .alternatives }) (conj x y) n
+  pub conj-wrote : {m2 : Store} {y : Tree} {b : ℕ} {ns : Table Node} {n : ℕ} → Wrote σ m m2 y b → Puts (m2 .nodes) (both-node σ a b ∷ []) n ns → Wrote σ s (record { nodes = ns; terms = m2 .terms; alternatives = m2 .alternatives }) (conj x y) n
   conj-wrote {m2} {y} {b} v p =
       let c = plain-counted p in
       record
@@ -158,12 +158,12 @@ abbrev pub stepped : Store → Table Node → Table ℕ → Store
 stepped m ns alts = record { nodes = ns; terms = m .terms; alternatives = alts }
 
 module _ {s m : Store} {d : Tree} {b : ℕ} (w : Wrote dist s m d b) {ns : Table Node} {alts : Table ℕ} {n : ℕ} where
-  step-counted : {x : Node} → Puts (m .alternatives) b (m .alternatives .fill) alts → Puts (m .nodes) x n ns → Counted m 1 0 1 (stepped m ns alts)
-  step-counted q p = record { nodes = one-counted p; terms = grind arith; alternatives = one-counted q }
+  step-counted : {x : Node} → Puts (m .alternatives) (b ∷ []) (m .alternatives .fill) alts → Puts (m .nodes) (x ∷ []) n ns → Counted m 1 0 1 (stepped m ns alts)
+  step-counted q p = record { nodes = put-counted p; terms = grind arith; alternatives = put-counted q }
 
   step-wrote : {x : Node} (t : Tree) (l : ℕ → Line) → below t ≡ below d + 1 → term-count t ≡ term-count d → step-count t ≡ step-count d + 1 →
       lay state (s .nodes .fill) t ≡ lay dist (s .nodes .fill) d ++ (l (s .nodes .fill + below d) ∷ []) →
-      Puts (m .alternatives) b (m .alternatives .fill) alts → Puts (m .nodes) x n ns →
+      Puts (m .alternatives) (b ∷ []) (m .alternatives .fill) alts → Puts (m .nodes) (x ∷ []) n ns →
       (Small (stepped m ns alts) → node-table (m .terms .fill) (m .alternatives .fill) (l b ∷ []) ≡ x ∷ []) → term-table (l b ∷ []) ≡ [] → alternative-table (l b ∷ []) ≡ b ∷ [] →
       Wrote state s (stepped m ns alts) t n
   step-wrote t l e f g i q p u v z =
@@ -174,7 +174,7 @@ module _ {s m : Store} {d : Tree} {b : ℕ} (w : Wrote dist s m d b) {ns : Table
         ; laid = λ h.
             let k = small-before c h in
             more-added s m (stepped m ns alts) _ _ k (w .laid k)
-              (together (put-one p ∙ ap (extended (m .nodes)) (sym (u h))) (unchanged (m .terms) (k .terms) ∙ ap (extended (m .terms)) (sym v)) (put-one q ∙ ap (extended (m .alternatives)) (sym z)))
+              (together (put p ∙ ap (extended (m .nodes)) (sym (u h))) (unchanged (m .terms) (k .terms) ∙ ap (extended (m .terms)) (sym v)) (put q ∙ ap (extended (m .alternatives)) (sym z)))
             ∙ ap (λ y. added s (lay dist (s .nodes .fill) d ++ (l y ∷ []))) (w .number k)
             ∙ ap (added s) (sym i)
         }
@@ -182,7 +182,7 @@ module _ {s m : Store} {d : Tree} {b : ℕ} (w : Wrote dist s m d b) {ns : Table
   pub dia-wrote : {action : ℕ} → PutsMove (m .nodes) (m .alternatives) action b n ns alts → Wrote state s (stepped m ns alts) (dia action d) n
   dia-wrote {action} p =
       step-wrote (dia action d) (λ y. step action (y ∷ []) []) refl refl refl refl (p .0) (p .1)
-      (λ h. let z : alts .fill ≡ m .alternatives .fill + 1 = exact (m .alternatives .fill) 1 (alts .fill) (one-counted (p .0)) (h .alternatives) in
+      (λ h. let z : alts .fill ≡ m .alternatives .fill + 1 = exact (m .alternatives .fill) 1 (alts .fill) (put-counted (p .0)) (h .alternatives) in
             ap (λ k. State (Step action (run (m .alternatives .fill) 1) (run k 0)) ∷ []) (sym z))
       refl refl
 
@@ -280,13 +280,13 @@ pub at-least-wrote : {s m : Store} {ks : Products} {xs : Summands} {t n : ℕ} {
 at-least-wrote {s} {m} {ks} {xs} {t} {n} {ns} {ts} q p =
     let l = take (xs .count) (xs .terms) in
     let c : Counted m 1 (count ks) 0 (record { nodes = ns; terms = ts; alternatives = m .alternatives }) =
-      record { nodes = one-counted (p .2); terms = ap capped (p .0) ∙ ap (λ k. capped (raised (m .terms .fill) k)) (q .many) ∙ grind arith; alternatives = grind arith } in
+      record { nodes = put-counted (p .1); terms = put-counted (p .0) ∙ ap (raised (m .terms .fill)) (q .many); alternatives = grind arith } in
     record
       { counted = counted-as (omega arith) (omega arith) (omega arith) (counted-then (q .counted) c)
-      ; number = λ h. let b = small-before c h in omega (arith, p .2 .place, exact (s .nodes .fill) (below-products ks) (m .nodes .fill) (q .counted .nodes) (b .nodes))
+      ; number = λ h. let b = small-before c h in omega (arith, p .1 .place, exact (s .nodes .fill) (below-products ks) (m .nodes .fill) (q .counted .nodes) (b .nodes))
       ; laid = λ h.
           let b = small-before c h in
           more-added s m _ _ (sum t l ∷ []) b (q .laid b)
-            (together (put-one (p .2)) (same-table (p .1) (p .0) ∙ ap (extended (m .terms)) (sym (append-nil l))) (unchanged (m .alternatives) (b .alternatives)))
+            (together (put (p .1)) (put (p .0) ∙ ap (extended (m .terms)) (sym (append-nil l))) (unchanged (m .alternatives) (b .alternatives)))
           ∙ ap (λ y. added s (lay-products (s .nodes .fill) ks ++ (sum t y ∷ []))) (q .found b)
       }

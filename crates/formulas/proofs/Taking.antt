@@ -22,9 +22,23 @@ measure w rank = 3 * (length (now (w .text)) - w .pos) + rank
 pub nothing-read : {A X : Type 0} {V : A → X → Type 0} {w : Words} {v : A} {x : X} → V v x → Takes 0 (λ stop ws. Ok (v, ws)) V w (Ok x) w
 nothing-read {v} h = record { same = refl; moved = (omega arith, omega arith); took = (v, refl, h) }
 
--- a refusal
+pub eased : {A X : Type 0} {f : ℕ → List Item → Out A} {V : A → X → Type 0} {w v : Words} {r : Result X GrammarFault} → Takes 1 f V w r v → Takes 0 f V w r v
+eased {w} {v} {r} h = record { same = h .same; moved = shorter _ (w .pos) (v .pos) r (h .moved); took = h .took }
+  where
+    shorter : {X : Type 0} (n p q : ℕ) (r : Result X GrammarFault) → Moved 1 n p r q → Moved 0 n p r q
+    shorter n p q (Ok x) m = (omega arith, m .1)
+    shorter n p q (Err f) m = tt
+
+-- a refusal, at the first word and behind others
+pub refused-first : {A X : Type 0} {V : A → X → Type 0} {w : Words} {d : ℕ} {f : GrammarFault} → Takes {A = A} {X = X} d (λ stop ws. Err f) V w (Err f) w
+refused-first = record { same = refl; moved = tt; took = refl }
+
 pub refused : {A X : Type 0} {V : A → X → Type 0} {w : Words} {f : GrammarFault} → Takes {A = A} {X = X} 0 (λ stop ws. Err f) V w (Err f) w
-refused = record { same = refl; moved = tt; took = refl }
+refused = refused-first
+
+-- what was read, where the answer is the value
+pub read-itself : {A : Type 0} {f : ℕ → List Item → Out A} {w m : Words} {d : ℕ} {x : A} → Takes d f Itself w (Ok x) m → f (length (now (w .text))) (items (now (w .text)) (w .pos)) ≡ Ok (x, items (now (w .text)) (m .pos))
+read-itself h = h .took .1 ∙ ap (λ v. Ok (v, _)) (h .took .2)
 
 pub as-if : {A X : Type 0} {V : A → X → Type 0} {w v : Words} {d : ℕ} {r : Result X GrammarFault} {f g : ℕ → List Item → Out A} →
     ((stop : ℕ) (ws : List Item) → f stop ws ≡ g stop ws) → Takes d g V w r v → Takes d f V w r v
@@ -47,10 +61,9 @@ module _ {A B X Y : Type 0} {V : A → X → Type 0} {U : B → Y → Type 0} {f
       record { same = h .same; moved = tt; took = ap (λ o. then o (k (length (now (w .text))))) (h .took) ∙ ap Err (sym (b .1)) }
 
   -- the reader goes on behind its first step
-  pub and-then : {v : Words} {r : Result Y GrammarFault} {e : ℕ} {x : X} (k : ℕ → A → List Item → Out B) → Takes d f V w (Ok x) m → ((a : A) → V a x → Takes e (λ stop ws. k stop a ws) U m r v) → Takes d (λ stop ws. then (f stop ws) (k stop)) U w r v
-  and-then {v} {r} {e} {x} k h more =
+  pub and-next : {v : Words} {r : Result Y GrammarFault} {e : ℕ} {x : X} (k : ℕ → A → List Item → Out B) (h : Takes d f V w (Ok x) m) → Takes e (λ stop ws. k stop (h .took .0) ws) U m r v → Takes d (λ stop ws. then (f stop ws) (k stop)) U w r v
+  and-next {v} {r} {e} {x} k h n =
       let a = h .took .0 in
-      let n = more a (h .took .2) in
       record
         { same = n .same ∙ h .same
         ; moved = moved-on (w .text) (m .text) (w .pos) (m .pos) (v .pos) d e x r (h .same) (h .moved) (n .moved)
@@ -59,11 +72,18 @@ module _ {A B X Y : Type 0} {V : A → X → Type 0} {U : B → Y → Type 0} {f
             (subst (λ t. Taken U (now t) (k (length (now t)) a (items (now t) (m .pos))) r (v .pos)) (h .same) (n .took))
         }
 
+  pub and-then : {v : Words} {r : Result Y GrammarFault} {e : ℕ} {x : X} (k : ℕ → A → List Item → Out B) → Takes d f V w (Ok x) m → ((a : A) → V a x → Takes e (λ stop ws. k stop a ws) U m r v) → Takes d (λ stop ws. then (f stop ws) (k stop)) U w r v
+  and-then k h more = and-next k h (more (h .took .0) (h .took .2))
+
 -- the same, where the first step answers its value
 pub and-so : {A B Y : Type 0} {U : B → Y → Type 0} {f : ℕ → List Item → Out A} {w m v : Words} {d e : ℕ} {r : Result Y GrammarFault} {x : A} (k : ℕ → A → List Item → Out B) →
     Takes d f Itself w (Ok x) m → Takes e (λ stop ws. k stop x ws) U m r v → Takes d (λ stop ws. then (f stop ws) (k stop)) U w r v
 and-so {U} {m} {v} {e} {r} k h more = and-then k h (λ a i. subst (λ b. Takes e (λ stop ws. k stop b ws) U m r v) (sym i) more)
 
--- a reader that takes a step at least one byte long falls below three ranks
-pub falls : {A X : Type 0} {f : ℕ → List Item → Out A} {V : A → X → Type 0} {w m : Words} {x : X} (i j : ℕ) → j < 3 → Takes 1 f V w (Ok x) m → measure m j < measure w i
-falls {w} {m} i j h t = let n : length (now (m .text)) ≡ length (now (w .text)) = ap (λ u. length (now u)) (t .same) in let v = t .moved in omega arith
+-- the answer in another form
+pub known : {A : Type 0} {f : ℕ → List Item → Out A} {w m : Words} {d : ℕ} {x y : A} → Takes d f Itself w (Ok x) m → x ≡ y → Takes d f Itself w (Ok y) m
+known {f} {w} {m} {d} h e = subst (λ v. Takes d f Itself w (Ok v) m) e h
+
+pub and-as : {A B Y : Type 0} {U : B → Y → Type 0} {f : ℕ → List Item → Out A} {w m v : Words} {d e : ℕ} {r : Result Y GrammarFault} {x y : A} (k : ℕ → A → List Item → Out B) →
+    Takes d f Itself w (Ok x) m → x ≡ y → Takes e (λ stop ws. k stop y ws) U m r v → Takes d (λ stop ws. then (f stop ws) (k stop)) U w r v
+and-as k h i more = and-so k (known h i) more

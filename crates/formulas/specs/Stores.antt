@@ -2,8 +2,7 @@
 use mathlib.Core.List.{List, [], _∷_}
 use mathlib.Core.Path.{_≡_}
 use Prim.Native.Nat.{ℕ, _+_, _<_, _≤_}
-use denote.Ref.{now}
-use lib.ListN.{length, set, take}
+use lib.ListN.{length, take}
 use Rattle.formulas.specs.declared.append.AppendList.{AppendList}
 use Rattle.formulas.specs.declared.node.Node.{Node}
 use Rattle.formulas.specs.declared.node.Node.the-variants.{State, Dist}
@@ -11,23 +10,15 @@ use Rattle.formulas.specs.declared.node.StateNode.the-variants.{Step}
 use Rattle.formulas.specs.declared.node.DistNode.the-variants.{Sum}
 use Rattle.formulas.specs.declared.node.Term.{Term}
 use Rattle.formulas.specs.declared.summands.Summands.{Summands}
-use Rattle.formulas.specs.Append.{capped, raised, written}
+use Rattle.formulas.specs.Append.{capped, raised, written, Table, table, Puts}
 use Rattle.formulas.specs.Layout.{run, node-table, term-table, alternative-table}
 use Rattle.formulas.specs.Lines.{Sort, state, Line}
 use Rattle.formulas.specs.Trees.{Tree, leaf, conj, neg, dia, here, at-least, Products, none, product, below, below-products, count, terms, lay, lay-products}
-
--- a table, and how much of it is filled
-pub record Table (X : Type 0) : Type 0 where
-  pub slots : List X
-  pub fill : ℕ
 
 pub record Store : Type 0 where
   pub nodes : Table Node
   pub terms : Table Term
   pub alternatives : Table ℕ
-
-abbrev pub table : {X : Type 0} → AppendList X → Table X
-table l = record { slots = now (l .slots); fill = l .fill }
 
 abbrev pub store : AppendList Node → AppendList Term → AppendList ℕ → Store
 store ns ts alts = record { nodes = table ns; terms = table ts; alternatives = table alts }
@@ -104,26 +95,20 @@ pub record Summed (s after : Store) (ks : Products) (xs : Summands) : Type 0 whe
   pub found : Small after → take (xs .count) (xs .terms) ≡ terms (s .nodes .fill) ks
   pub laid : Small after → after ≡ added s (lay-products (s .nodes .fill) ks)
 
--- one entry more, in the place n
-pub record Puts {X : Type 0} (t : Table X) (x : X) (n : ℕ) (after : Table X) : Type 0 where
-  pub place : n ≡ t .fill
-  pub fill : after .fill ≡ raised (t .fill) 1
-  pub slots : after .slots ≡ set (t .slots) (t .fill) x
-
 -- a step with one move alternative, part, is put
 abbrev pub PutsMove : Table Node → Table ℕ → ℕ → ℕ → ℕ → Table Node → Table ℕ → Type 0
 PutsMove ns alts action part n nodes alternatives =
-    Puts alts part (alts .fill) alternatives
-    × Puts ns (State (Step action (run (alts .fill) 1) (run (alternatives .fill) 0))) n nodes
+    Puts alts (part ∷ []) (alts .fill) alternatives
+    × Puts ns (State (Step action (run (alts .fill) 1) (run (alternatives .fill) 0)) ∷ []) n nodes
 
 -- a step with one here alternative, part, is put
 abbrev pub PutsHere : Table Node → Table ℕ → ℕ → ℕ → Table Node → Table ℕ → Type 0
 PutsHere ns alts part n nodes alternatives =
-    Puts alts part (alts .fill) alternatives
-    × Puts ns (State (Step 0 (run (alts .fill) 0) (run (alts .fill) 1))) n nodes
+    Puts alts (part ∷ []) (alts .fill) alternatives
+    × Puts ns (State (Step 0 (run (alts .fill) 0) (run (alts .fill) 1)) ∷ []) n nodes
 
 -- a sum of the terms ks is put
 abbrev pub PutsSum : Table Node → Table Term → List Term → ℕ → ℕ → Table Node → Table Term → Type 0
 PutsSum ns ts ks threshold n nodes terms =
-    (terms .fill ≡ raised (ts .fill) (length ks)) × (terms .slots ≡ written (ts .slots) (ts .fill) ks)
-    × Puts ns (Dist (Sum threshold (run (ts .fill) (length ks)))) n nodes
+    Puts ts ks (ts .fill) terms
+    × Puts ns (Dist (Sum threshold (run (ts .fill) (length ks))) ∷ []) n nodes

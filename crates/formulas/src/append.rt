@@ -1,8 +1,8 @@
 // Tables that fill from the front.
 ghost use mathlib.Core.Path.{_≡_};
 ghost use denote.Ref.{name};
-ghost use lib.ListN.{length, set};
-ghost use Rattle.formulas.specs.Append.{raised, written};
+ghost use mathlib.Core.List.{_∷_, []};
+ghost use Rattle.formulas.specs.Append.{table, Puts};
 
 // A table over a lent slice. What passes the slice is counted and not written.
 #[derive(Drop)]
@@ -23,9 +23,7 @@ impl<'a, T: Drop> AppendList<'a, T> {
     // Writes where there is room, counts in any case, and answers the entry's place.
     pub fn put(&mut self, x: T) -> u32
         ensures same { λ _. ⌜ name (now (self .exit) .slots) ≡ name (now (self .entry) .slots) ⌝ }
-        ensures place { λ r. ⌜ r ≡ now (self .entry) .fill ⌝ }
-        ensures fill { λ _. ⌜ now (self .exit) .fill ≡ raised (now (self .entry) .fill) 1 ⌝ }
-        ensures slots { λ _. ⌜ now (now (self .exit) .slots) ≡ set (now (now (self .entry) .slots)) (now (self .entry) .fill) x ⌝ }
+        ensures puts { λ r. ⌜ Puts (table (now (self .entry))) (x ∷ []) r (table (now (self .exit))) ⌝ }
     {
         let at = self.fill;
         self.fill = at.saturating_add(1);
@@ -41,9 +39,7 @@ impl<'a, T: Copy> AppendList<'a, T> {
     // Puts each of the entries, and answers the place of the first.
     pub fn put_all(&mut self, entries: &[T]) -> u32
         ensures same { λ _. ⌜ name (now (self .exit) .slots) ≡ name (now (self .entry) .slots) ⌝ }
-        ensures place { λ r. ⌜ r ≡ now (self .entry) .fill ⌝ }
-        ensures fill { λ _. ⌜ now (self .exit) .fill ≡ raised (now (self .entry) .fill) (length (now (entries .entry))) ⌝ }
-        ensures slots { λ _. ⌜ now (now (self .exit) .slots) ≡ written (now (now (self .entry) .slots)) (now (self .entry) .fill) (now (entries .entry)) ⌝ }
+        ensures puts { λ r. ⌜ Puts (table (now (self .entry))) (now (entries .entry)) r (table (now (self .exit))) ⌝ }
     {
         let first = self.fill;
         for x in entries {
