@@ -53,7 +53,7 @@ counted-as {s} {after} {n} {t} {a} {o} {u} {b} e f g c =
       ; alternatives = c .alternatives ∙ ap (raised (s .alternatives .fill)) g
       }
 
-together : {n o : Table Node} {t u : Table Term} {a b : Table ℕ} → n ≡ o → t ≡ u → a ≡ b → _≡_ {A = Store} (record { nodes = n; terms = t; alternatives = a }) (record { nodes = o; terms = u; alternatives = b })
+pub together : {n o : Table Node} {t u : Table Term} {a b : Table ℕ} → n ≡ o → t ≡ u → a ≡ b → _≡_ {A = Store} (record { nodes = n; terms = t; alternatives = a }) (record { nodes = o; terms = u; alternatives = b })
 together e f g = cc
 
 -- lines behind lines
@@ -83,7 +83,7 @@ added-++ s ls ms h =
 more-added : (s m after : Store) (ls ms : List Line) → Small m → m ≡ added s ls → after ≡ added m ms → after ≡ added s (ls ++ ms)
 more-added s m after ls ms h e f = f ∙ ap (λ z. added z ms) e ∙ added-++ s ls ms (subst Small e h)
 
-same-table : {X : Type 0} {t u : Table X} → t .slots ≡ u .slots → t .fill ≡ u .fill → t ≡ u
+pub same-table : {X : Type 0} {t u : Table X} → t .slots ≡ u .slots → t .fill ≡ u .fill → t ≡ u
 same-table e f = λ i. record { slots = e i; fill = f i }
 
 -- a table without a new entry

@@ -1,5 +1,5 @@
 -- Tables that fill from the front.
-use mathlib.Core.List.{List, [], _∷_, _++_}
+use mathlib.Core.List.{List, [], _∷_, _++_, append-assoc}
 use mathlib.Core.Path.{_≡_, refl, sym, ap, _∙_}
 use Prim.Native.Nat.{ℕ, suc, _+_, _≤_, _<_, min}
 use native.Mathlib.Nat.{add-zero}
@@ -29,3 +29,22 @@ module _ {X : Type 0} (ys : List X) (i : ℕ) (lt : i < length ys) where
 
 pub written-all : {X : Type 0} (ys before : List X) (i fill : ℕ) → length ys ≤ i → written before fill (drop i ys) ≡ before
 written-all ys before i fill h = ap (written before fill) (drop-all i ys h)
+
+-- entries written from the front of a table that takes them
+set-behind : {X : Type 0} (zs : List X) (x y : X) (xs : List X) → set (zs ++ (x ∷ xs)) (length zs) y ≡ zs ++ (y ∷ xs)
+set-behind [] x y xs = refl
+set-behind (z ∷ zs) x y xs = ap (λ l. z ∷ l) (set-behind zs x y xs)
+
+written-behind : {X : Type 0} (ys zs xs : List X) → length ys ≤ length xs → length zs + length ys < 4294967295 → written (zs ++ xs) (length zs) ys ≡ zs ++ (ys ++ drop (length ys) xs)
+written-behind [] zs xs h b = refl
+written-behind (y ∷ ys) zs [] h b = absurd (omega arith)
+written-behind (y ∷ ys) zs (x ∷ xs) h b =
+    let here : length (zs ++ (y ∷ [])) ≡ raised (length zs) 1 = simp length-append (grind arith) in
+    let less : length (zs ++ (y ∷ [])) + length ys < 4294967295 = simp length-append (omega arith) in
+    ap (λ l. written l (raised (length zs) 1) ys) (set-behind zs x y xs ∙ sym (append-assoc zs (y ∷ []) xs))
+    ∙ ap (λ n. written ((zs ++ (y ∷ [])) ++ xs) n ys) (sym here)
+    ∙ written-behind ys (zs ++ (y ∷ [])) xs (omega arith) less
+    ∙ append-assoc zs (y ∷ []) (ys ++ drop (length ys) xs)
+
+pub written-front : {X : Type 0} (ys xs : List X) → length ys ≤ length xs → length ys < 4294967295 → written xs 0 ys ≡ ys ++ drop (length ys) xs
+written-front ys xs h b = written-behind ys [] xs h (omega arith)

@@ -15,3 +15,4 @@ pub mod Append
 pub mod Readers
 pub mod Productions
 pub mod Stores
+pub mod Whole

@@ -5,6 +5,7 @@ pub mod fault;
 mod grammar;
 pub mod lexer;
 pub mod node;
+pub mod read;
 pub mod summands;
 pub mod token;
 pub mod tokens;
