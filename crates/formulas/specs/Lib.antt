@@ -12,3 +12,8 @@ pub mod Grammar
 pub mod Faults
 pub mod Reading
 pub mod Spelling
+pub mod Append
+pub mod Readers
+pub mod Productions
+pub mod Stores
+pub mod Whole

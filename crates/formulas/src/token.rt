@@ -23,3 +23,10 @@ pub struct Lexeme {
     pub token: Token,
     pub place: usize,
 }
+
+// How a term begins: with a constant, or with the token behind its parenthesis.
+#[derive(Clone, Copy)]
+pub enum Start {
+    Constant(bool),
+    Inside(Lexeme),
+}
