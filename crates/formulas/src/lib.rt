@@ -6,7 +6,6 @@ mod grammar;
 mod lexer;
 pub mod node;
 pub mod read;
-pub mod spelling;
 pub mod stands;
 mod summands;
 pub mod token;

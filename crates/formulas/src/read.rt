@@ -4,6 +4,7 @@ ghost use mathlib.Core.Path.{_≡_};
 ghost use lib.ListN.{length};
 ghost use Rattle.formulas.specs.Grammar.{items, parse};
 ghost use Rattle.formulas.specs.Reading.{takes as takesOf, reading, Reads};
+ghost use Rattle.formulas.specs.Spelling.{Reading-law};
 ghost use Rattle.formulas.specs.Whole.{Ends, Whole};
 use crate::append::AppendList;
 use crate::draft::Draft;
@@ -60,7 +61,7 @@ fn take_all(nodes: usize, terms: usize, alternatives: usize, need: Fills) -> boo
 }
 
 // Reads a text twice: to count what it needs, and, where the tables take that, to write it.
-pub fn read(text: &[u8], nodes: &mut [Node], terms: &mut [Term], alternatives: &mut [u32]) -> Result<Draft, ReadFault>
+fn read_twice(text: &[u8], nodes: &mut [Node], terms: &mut [Term], alternatives: &mut [u32]) -> Result<Draft, ReadFault>
     ensures { λ r. ⌜ Reads (reading (now (text .entry)) (record { nodes = now (nodes .entry); terms = now (terms .entry); alternatives = now (alternatives .entry) })) (record { nodes = now (nodes .entry); terms = now (terms .entry); alternatives = now (alternatives .entry) }) r (record { nodes = now (nodes .exit); terms = now (terms .exit); alternatives = now (alternatives .exit) }) ⌝ }
 {
     let mut no_nodes: [Node; 0] = [];
@@ -72,4 +73,12 @@ pub fn read(text: &[u8], nodes: &mut [Node], terms: &mut [Term], alternatives: &
     }
     let (fills, root) = whole(text, nodes, terms, alternatives)?;
     Ok(Draft::new(fills, root))
+}
+
+// Reads a text into a draft, its formula laid out at the front of the tables; a refused text leaves the tables as they were.
+pub fn read(text: &[u8], nodes: &mut [Node], terms: &mut [Term], alternatives: &mut [u32]) -> Result<Draft, ReadFault>
+    ensures reads { λ r. ⌜ Reads (reading (now (text .entry)) (record { nodes = now (nodes .entry); terms = now (terms .entry); alternatives = now (alternatives .entry) })) (record { nodes = now (nodes .entry); terms = now (terms .entry); alternatives = now (alternatives .entry) }) r (record { nodes = now (nodes .exit); terms = now (terms .exit); alternatives = now (alternatives .exit) }) ⌝ }
+    ensures law { λ _. ⌜ Reading-law ⌝ }
+{
+    read_twice(text, nodes, terms, alternatives)
 }
