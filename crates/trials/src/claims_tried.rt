@@ -9,6 +9,8 @@ use formulas::node::Node;
 use formulas::node::StateNode;
 use formulas::node::Term;
 use formulas::read::read;
+use std::alloc::AllocError;
+use std::alloc::Global;
 use std::error::AnyError;
 use std::io;
 use systems::actions::ActionSet;
@@ -18,6 +20,8 @@ use systems::records::MoveRecord;
 use systems::system::Target;
 
 const BLANK: u8 = 7;
+
+const PROMISE: &[u8] = b"(dia 0 (>= (* 1000 (prob (dia 1 true))) 750))";
 
 fn print_bytes(rt: &LibcRuntime, label: &str, bytes: &[u8]) -> io::Result<()> {
     print!(rt, "{label}")?;
@@ -44,18 +48,57 @@ fn try_judge(rt: &LibcRuntime, label: &str, claim: &Claim, tables: Tables, syste
     Ok(())
 }
 
-// One claim with tables of several lengths, and then with a changed node.
-fn try_lengths(rt: &LibcRuntime, claim: &Claim, nodes: &mut [Node], terms: &[Term], alternatives: &[u32], worker: &Component) -> Result<(), AnyError> {
-    let tables = Tables { nodes, terms, alternatives };
-    try_judge(rt, "just long enough", claim, tables, worker, 8, 4)?;
-    try_judge(rt, "longer than needed", claim, tables, worker, 10, 6)?;
-    try_judge(rt, "truth table a byte short", claim, tables, worker, 7, 4)?;
-    try_judge(rt, "row a byte short", claim, tables, worker, 8, 3)?;
-    let short = Tables { nodes: &nodes[0..3], terms, alternatives };
-    try_judge(rt, "node table shorter than the fill", claim, short, worker, 8, 4)?;
-    nodes[1] = Node::State(StateNode::Not(1));
-    let changed = Tables { nodes, terms, alternatives };
-    try_judge(rt, "a node that is its own part", claim, changed, worker, 8, 4)
+// The tables of one promise.
+#[derive(Drop)]
+struct Slots {
+    nodes: Vec<Node>,
+    terms: Vec<Term>,
+    alternatives: Vec<u32>,
+}
+
+impl Slots {
+    fn tables(&self) -> Tables {
+        Tables {
+            nodes: self.nodes.as_slice(),
+            terms: self.terms.as_slice(),
+            alternatives: self.alternatives.as_slice(),
+        }
+    }
+
+    // Reads the promise into the tables.
+    fn read(&mut self) -> Result<Draft, AnyError> {
+        match read(PROMISE, self.nodes.as_mut_slice(), self.terms.as_mut_slice(), self.alternatives.as_mut_slice()) {
+            Ok(draft) => Ok(draft),
+            Err(_) => Err("the promise is not read".into()),
+        }
+    }
+}
+
+// Tables that are longer than the promise needs.
+fn long_slots(heap: Global) -> Result<Slots, AllocError> {
+    Ok(Slots {
+        nodes: vec![in heap; Node::State(StateNode::Yes); 6]?,
+        terms: vec![in heap; Term { coefficient: 0, node: 0 }; 3]?,
+        alternatives: vec![in heap; 9u32; 5]?,
+    })
+}
+
+// One claim with truth tables and rows of several lengths.
+fn try_lengths(rt: &LibcRuntime, claim: &Claim, slots: &Slots, worker: &Component) -> Result<(), AnyError> {
+    try_judge(rt, "just long enough", claim, slots.tables(), worker, 8, 4)?;
+    try_judge(rt, "longer than needed", claim, slots.tables(), worker, 10, 6)?;
+    try_judge(rt, "truth table a byte short", claim, slots.tables(), worker, 7, 4)?;
+    try_judge(rt, "row a byte short", claim, slots.tables(), worker, 8, 3)
+}
+
+// One claim on tables that were changed behind its back: a node that is its own part, then fewer nodes than it has.
+fn try_changed(rt: &LibcRuntime, claim: &Claim, slots: &mut Slots, worker: &Component) -> Result<(), AnyError> {
+    if let Some(node) = slots.nodes.get_mut(1) {
+        *node = Node::State(StateNode::Not(1));
+    }
+    try_judge(rt, "a node that is its own part", claim, slots.tables(), worker, 8, 4)?;
+    slots.nodes.truncate(3);
+    try_judge(rt, "node table shorter than the fill", claim, slots.tables(), worker, 8, 4)
 }
 
 fn worker(rt: &LibcRuntime) -> Result<Component, AnyError> {
@@ -92,22 +135,18 @@ fn try_open(rt: &LibcRuntime, draft: Draft, tables: Tables) -> Result<Option<Cla
 }
 
 pub fn try_claims(rt: &LibcRuntime) -> Result<(), AnyError> {
-    let text = b"(dia 0 (>= (* 1000 (prob (dia 1 true))) 750))";
-    let mut nodes = [Node::State(StateNode::Yes); 6];
-    let mut terms = [Term { coefficient: 0, node: 0 }; 3];
-    let mut alternatives = [9u32; 5];
     let worker = worker(rt)?;
-    let Ok(draft) = read(text, &mut nodes, &mut terms, &mut alternatives) else {
-        return Err("the promise is not read".into());
-    };
-    let opened = try_open(rt, draft, Tables { nodes: &nodes, terms: &terms, alternatives: &alternatives })?;
-    if let Some(claim) = opened {
-        try_lengths(rt, &claim, &mut nodes, &terms, &alternatives, &worker)?;
+    let mut slots = long_slots(rt.alloc())?;
+    let draft = slots.read()?;
+    if let Some(claim) = try_open(rt, draft, slots.tables())? {
+        try_lengths(rt, &claim, &slots, &worker)?;
+        try_changed(rt, &claim, &mut slots, &worker)?;
     }
-    let Ok(draft) = read(text, &mut nodes, &mut terms, &mut alternatives) else {
-        return Err("the promise is not read again".into());
-    };
-    alternatives[1] = 3;
-    try_open(rt, draft, Tables { nodes: &nodes, terms: &terms, alternatives: &alternatives })?;
+    let mut slots = long_slots(rt.alloc())?;
+    let draft = slots.read()?;
+    if let Some(alternative) = slots.alternatives.get_mut(1) {
+        *alternative = 3;
+    }
+    try_open(rt, draft, slots.tables())?;
     Ok(())
 }
