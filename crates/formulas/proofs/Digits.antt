@@ -1,19 +1,18 @@
-use mathlib.Core.Path.{_≡_, refl, sym, ap, subst, _∙_}
+use mathlib.Core.Path.{_≡_, refl, sym, ap, _∙_}
 use mathlib.Core.List.{List, [], _∷_}
-use mathlib.Core.Bool.{Bool, true, false, cond, _&&_}
-use mathlib.Core.Logic.{_⊎_, inl, inr}
-use Prim.Native.Nat.{ℕ, suc, _+_, _-_, _*_, _≤_, _<_, min}
+use mathlib.Core.Bool.{false}
+use mathlib.Core.Logic.{_⊎_}
+use Prim.Native.Nat.{ℕ, _+_, _-_, _*_, _≤_, _<_, min}
 use native.Mathlib.Omega.{arith}
 use native.Mathlib.Numerals.{add-one}
-use lib.Dec.{eqb, leb}
+use lib.Dec.{eqb}
 use lib.ListN.{length, getD, drop}
 use lib.Seq.{drop-cons}
 use Rattle.std.proofs.shelf.Lists.{drop-all}
-use Rattle.std.proofs.shelf.Tests.{cond-true, cond-false, eq-eqb, ne-eqb, cond-both, eqb-true}
+use Rattle.std.proofs.shelf.Tests.{cond-true, cond-false, cond-both, eqb-true}
 use Rattle.std.proofs.shelf.Ways.{tells}
-use Rattle.std.specs.declared.option.Option.{Option}
 use Rattle.std.specs.declared.option.Option.the-variants.{Some, None}
-use Rattle.formulas.specs.Tokens.{digit, digits, decimal, canonical, numeralOf}
+use Rattle.formulas.specs.Tokens.{digits, decimal, canonical, numeralOf}
 
 -- an over-large number stays over-large
 capped : (a b d : ℕ) → min a 1073741825 ≡ min b 1073741825 → min (a * 10 + d) 1073741825 ≡ min (b * 10 + d) 1073741825
@@ -33,15 +32,6 @@ canonical-plain : (w : List ℕ) → 0 < length w → (getD w 0 0 ≡ 48 → len
 canonical-plain [] h f = absurd (omega arith)
 canonical-plain (b ∷ []) h f = refl
 canonical-plain (b ∷ c ∷ bs) h f = cond-both (eqb b 48) false (digits (b ∷ c ∷ bs)) (λ x. x ≡ digits (b ∷ c ∷ bs)) (λ e. absurd (omega (arith, f (eqb-true b 48 e)))) (λ _. refl)
-
-pub zero-first : (w : List ℕ) → getD w 0 0 ≡ 48 → 1 < length w → numeralOf w ≡ None
-zero-first [] e h = refl
-zero-first (b ∷ []) e h = absurd (omega arith)
-zero-first (b ∷ c ∷ bs) e h = rw (eq-eqb b 48 e)
-
-pub none-at-all : (w : List ℕ) → length w ≡ 0 → numeralOf w ≡ None
-none-at-all [] h = refl
-none-at-all (b ∷ w) h = absurd (omega arith)
 
 -- the digits before i are read, as v
 pub record Sofar (w : List ℕ) (i v : ℕ) : Type 0 where

@@ -1,10 +1,9 @@
 -- The beginnings of terms, sums and products, by their first token.
-use mathlib.Core.Bool.{true, false, cond, _&&_}
+use mathlib.Core.Bool.{true, false, _&&_}
 use mathlib.Core.List.{List}
 use mathlib.Core.Path.{_≡_, refl, sym, ap, subst}
 use Prim.Native.Nat.{ℕ, _≤_, _<_}
 use lib.Dec.{lit<, leb}
-use native.Mathlib.Omega.{arith}
 use Rattle.std.proofs.shelf.Tests.{eq-eqb, ne-eqb, le-leb, lt-leb, cond-true, cond-false, cond-both}
 use Rattle.std.specs.declared.option.Option.the-variants.{Some, None}
 use Rattle.std.specs.declared.result.Result.{Result}
@@ -12,11 +11,11 @@ use Rattle.std.specs.declared.result.Result.the-variants.{Ok, Err}
 use Rattle.formulas.specs.declared.fault.GrammarFault.{GrammarFault}
 use Rattle.formulas.specs.declared.fault.GrammarFault.the-variants.{Misplaced, OutOfRange}
 use Rattle.formulas.specs.declared.token.Lexeme.{Lexeme}
-use Rattle.formulas.specs.declared.token.Start.the-variants.{Constant, Inside}
+use Rattle.formulas.specs.declared.lexer.Start.the-variants.{Constant, Inside}
 use Rattle.formulas.specs.declared.token.Token.{Token}
 use Rattle.formulas.specs.declared.token.Token.the-variants.{Open, Close, True, False, And, Not, Dia, Here, Prob, AtLeast, Plus, Times, Numeral}
 use Rattle.formulas.specs.declared.words.Words.{Words}
-use Rattle.formulas.specs.Grammar.{Item, Out, then, ranged, is, code, value, nought, misplaced, too-many}
+use Rattle.formulas.specs.Grammar.{Item, then, ranged, is, code, value, nought, misplaced, too-many}
 use Rattle.formulas.specs.Readers.{behind, starting, sum-starting, following, confirmed, prob-starting, in-range, Takes, Itself}
 use Rattle.formulas.proofs.Codes.{is-not}
 use Rattle.formulas.proofs.Taking.{nothing-read, refused, as-if}

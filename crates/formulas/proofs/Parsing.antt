@@ -6,24 +6,23 @@ use mathlib.Core.Path.{_≡_, refl, sym, ap, _∙_}
 use Prim.Native.Nat.{ℕ, zero, suc, _+_, _-_, _≤_, _<_}
 use native.Mathlib.Omega.{arith}
 use denote.Ref.{now}
-use lib.Dec.{eqb, leb, lit<}
+use lib.Dec.{eqb, leb}
 use lib.ListN.{length}
-use Rattle.std.proofs.shelf.Tests.{cases-bool, cond-false, and-parts, leb-true, leb-false, le-leb, lt-leb, ne-eqb}
+use Rattle.std.proofs.shelf.Tests.{cases-bool, cond-false, and-parts, leb-true, leb-false, lt-leb, ne-eqb}
 use Rattle.std.proofs.shelf.Ways.{tells}
 use Rattle.std.specs.declared.option.Option.{Option}
 use Rattle.std.specs.declared.option.Option.the-variants.{Some, None}
 use Rattle.std.specs.declared.result.Result.the-variants.{Ok, Err}
 use Rattle.formulas.specs.declared.token.Lexeme.{Lexeme}
-use Rattle.formulas.specs.declared.token.Start.{Start}
-use Rattle.formulas.specs.declared.token.Start.the-variants.{Constant, Inside}
-use Rattle.formulas.specs.declared.token.Token.the-variants.{Open, Close, True, False, And, Not, Dia, Here, Prob, AtLeast, Plus, Times, Numeral}
+use Rattle.formulas.specs.declared.lexer.Start.{Start}
+use Rattle.formulas.specs.declared.lexer.Start.the-variants.{Constant, Inside}
+use Rattle.formulas.specs.declared.token.Token.the-variants.{Open, Close, True, False, Prob, Times}
 use Rattle.formulas.specs.declared.words.Words.{Words}
-use Rattle.formulas.specs.Grammar.{Item, items, Out, then, next, is, expect, number, ranged, value, nought, misplaced, too-many, closed, begun, headed, sum-begun, several, term, sum, quantity, element}
-use Rattle.formulas.specs.Lines.{Sort, state, dist}
-use Rattle.formulas.specs.Productions.{a-term, inside, pair, negation, diamond, standing, threshold, a-sum, sum-inside, a-quantity, a-product, one-product, products, an-element}
-use Rattle.formulas.specs.Readers.{behind, starting, starts, sum-starting, sum-starts, following, another, confirmed, prob-starting, prob-starts, Takes, Itself}
+use Rattle.formulas.specs.Grammar.{Item, items, Out, then, next, is, expect, number, ranged, value, nought, misplaced, too-many, closed, begun, sum-begun, several, term, sum, quantity, element}
+use Rattle.formulas.specs.Lines.{Sort, state}
+use Rattle.formulas.specs.Productions.{a-term, inside, a-sum, sum-inside, a-quantity, a-product, products, an-element}
+use Rattle.formulas.specs.Readers.{behind, starts, sum-starts, following, another, confirmed, prob-starts, Takes, Itself}
 use Rattle.formulas.specs.Trees.{Tree, leaf, Products, none, product}
-use Rattle.formulas.proofs.Codes.{is-not}
 use Rattle.formulas.proofs.Taking.{read-itself}
 
 -- steps in a row
@@ -81,16 +80,6 @@ term-starts (suc room) σ stop ws =
        ∙ ap (λ o. then o (λ y more. inside (suc room - 1) σ y stop more)) (sym (open-behind room x stop rest))
        ∙ sym (then-then (behind (suc room) x stop rest) (λ y r. Ok (Inside y, r)) (λ s r. started (suc room - 1) σ s stop r))))
 
--- no parenthesis opens where none may
-pub inside-room : (room stop : ℕ) (ws : List Item) (y : Lexeme) (rest : List Item) → starts room stop ws ≡ Ok (Inside y, rest) → 0 < room
-inside-room (suc room) stop ws y rest e = omega arith
-inside-room zero stop ws y rest e = absurd (from (next stop ws) e)
-  where
-    from : (o : Out Lexeme) → then o (λ x r. starting 0 x stop r) ≡ Ok (Inside y, rest) → ⊥
-    from (Err f) i = grind arith
-    from (Ok p) i =
-        ⊎-elim (λ t. grind arith) (λ t. ⊎-elim (λ u. grind arith) (λ u. ⊎-elim (λ v. grind arith) (λ v. grind arith) (cases-bool (is Open (p .0)))) (cases-bool (is False (p .0)))) (cases-bool (is True (p .0)))
-
 -- what a sum is, from its beginning
 abbrev pub sum-started : ℕ → Option Lexeme → ℕ → List Item → Out Products
 sum-started room None stop ws = Ok (none, ws)
@@ -114,15 +103,6 @@ sum-starts-as (suc room) stop ws =
        ∙ ap (λ o. then o (λ y more. sum-inside (suc room - 1) y stop more)) (sym (open-behind room x stop rest))
        ∙ sym (then-then (behind (suc room) x stop rest) (λ y r. Ok (Some y, r)) (λ s r. sum-started (suc room - 1) s stop r))))
 
-pub sum-room : (room stop : ℕ) (ws : List Item) (y : Lexeme) (rest : List Item) → sum-starts room stop ws ≡ Ok (Some y, rest) → 0 < room
-sum-room (suc room) stop ws y rest e = omega arith
-sum-room zero stop ws y rest e = absurd (from (next stop ws) e)
-  where
-    from : (o : Out Lexeme) → then o (λ x r. sum-starting 0 x stop r) ≡ Ok (Some y, rest) → ⊥
-    from (Err f) i = grind arith
-    from (Ok p) i =
-        ⊎-elim (λ t. grind arith) (λ t. ⊎-elim (λ u. grind arith) (λ u. grind arith) (cases-bool (is Open (p .0)))) (cases-bool (nought (value (p .0 .token))))
-
 -- a probability
 pub quantity-starts : (room stop : ℕ) (ws : List Item) → a-quantity room stop ws ≡ then (prob-starts room stop ws) (λ _ r. then (a-term (room - 1) state stop r) (λ s l. closed stop s l))
 unfolding quantity
@@ -135,14 +115,6 @@ quantity-starts (suc room) stop ws =
         ∙ ap (λ n. cond (is Open x) (then (expect Prob stop rest) (λ _ q. then (a-term n state stop q) (λ s l. closed stop s l))) (misplaced x)) (sym (less room))
         ∙ ap (λ o. cond (is Open x) (then (then o (λ y more. confirmed Prob y more)) (λ _ q. then (a-term (suc room - 1) state stop q) (λ s l. closed stop s l))) (misplaced x)) (sym (open-behind room x stop rest))
         ∙ sym (then-cond (is Open x) _ (misplaced x) _))
-
-pub prob-room : (room stop : ℕ) (ws : List Item) (rest : List Item) → prob-starts room stop ws ≡ Ok (tt, rest) → 0 < room
-prob-room (suc room) stop ws rest e = omega arith
-prob-room zero stop ws rest e = absurd (from (next stop ws) e)
-  where
-    from : (o : Out Lexeme) → then o (λ x r. prob-starting 0 x stop r) ≡ Ok (tt, rest) → ⊥
-    from (Err f) i = grind arith
-    from (Ok p) i = ⊎-elim (λ u. grind arith) (λ u. grind arith) (cases-bool (is Open (p .0)))
 
 -- one of several products
 pub element-full : (room : ℕ) (x : Lexeme) (left stop : ℕ) (ws : List Item) → room ≡ 0 → an-element room x left stop ws ≡ too-many x
@@ -204,39 +176,6 @@ follow-room count stop ws y rest e =
     from h (Err f) i = grind arith
     from h (Ok p) i =
         ⊎-elim (λ t. grind arith) (λ t. ⊎-elim (λ u. grind arith) (λ u. grind arith) (cases-bool (is Open (p .0)))) (cases-bool (is Close (p .0) && leb 2 count))
-
--- the kinds of a term, by its first token
-module _ (room : ℕ) (σ : Sort) (x : Lexeme) (stop : ℕ) (ws : List Item) where
-  pub inside-and : x .token ≡ And → inside room σ x stop ws ≡ pair room σ stop ws
-  inside-and e = rw e
-
-  pub inside-not : x .token ≡ Not → inside room σ x stop ws ≡ negation room σ stop ws
-  inside-not e = rw e
-
-module _ (room : ℕ) (x : Lexeme) (stop : ℕ) (ws : List Item) where
-  pub inside-dia : x .token ≡ Dia → inside room state x stop ws ≡ diamond room stop ws
-  inside-dia e = rw e
-
-  pub inside-here : x .token ≡ Here → inside room state x stop ws ≡ standing room stop ws
-  inside-here e = rw e
-
-  pub inside-at-least : x .token ≡ AtLeast → inside room dist x stop ws ≡ threshold room stop ws
-  inside-at-least e = rw e
-
-  pub no-state : (x .token ≡ And → ⊥) → (x .token ≡ Not → ⊥) → (x .token ≡ Dia → ⊥) → (x .token ≡ Here → ⊥) → inside room state x stop ws ≡ misplaced x
-  no-state a b c d = rw (is-not And (lit< tt) x a, is-not Not (lit< tt) x b, is-not Dia (lit< tt) x c, is-not Here (lit< tt) x d)
-
-  pub no-dist : (x .token ≡ And → ⊥) → (x .token ≡ Not → ⊥) → (x .token ≡ AtLeast → ⊥) → inside room dist x stop ws ≡ misplaced x
-  no-dist a b c = rw (is-not And (lit< tt) x a, is-not Not (lit< tt) x b, is-not AtLeast (lit< tt) x c)
-
-  pub sum-times : x .token ≡ Times → sum-inside room x stop ws ≡ one-product room stop ws
-  sum-times e = rw e
-
-  pub sum-plus : x .token ≡ Plus → sum-inside room x stop ws ≡ products room 0 1000 stop ws
-  sum-plus e = rw e
-
-  pub no-sum : (x .token ≡ Times → ⊥) → (x .token ≡ Plus → ⊥) → sum-inside room x stop ws ≡ misplaced x
-  no-sum a b = rw (is-not Times (lit< tt) x a, is-not Plus (lit< tt) x b)
 
 -- a number is in its range
 number-low : (low high stop : ℕ) (ws : List Item) (n : ℕ) (rest : List Item) → number low high stop ws ≡ Ok (n, rest) → n ≤ high

@@ -1,20 +1,16 @@
 -- Tables that fill from the front.
 use mathlib.Core.List.{List, [], _∷_, _++_, append-assoc}
 use mathlib.Core.Path.{_≡_, refl, sym, ap, _∙_}
-use Prim.Native.Nat.{ℕ, suc, _+_, _≤_, _<_, min}
-use native.Mathlib.Nat.{add-zero}
+use Prim.Native.Nat.{ℕ, _+_, _≤_, _<_}
 use native.Mathlib.Numerals.{add-one}
 use native.Mathlib.Omega.{arith}
-use lib.ListN.{length, getD, set, drop, length-append, length-set}
+use lib.ListN.{length, getD, set, drop, length-append}
 use lib.Seq.{drop-cons}
 use Rattle.std.proofs.shelf.Lists.{drop-all}
 use Rattle.formulas.specs.Append.{raised, written}
 
 pub raised-more : (i m n : ℕ) → raised (raised i m) n ≡ raised i (m + n)
 raised-more i m n = grind arith
-
-pub raised-small : (i n : ℕ) → raised i n < 4294967295 → raised i n ≡ i + n
-raised-small i n h = grind arith
 
 pub written-++ : {X : Type 0} (ys zs : List X) (xs : List X) (i : ℕ) → i ≤ 4294967295 → written (written xs i ys) (raised i (length ys)) zs ≡ written xs i (ys ++ zs)
 written-++ [] zs xs i h = ap (λ n. written xs n zs) (grind arith)

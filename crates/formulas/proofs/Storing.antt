@@ -1,30 +1,29 @@
 -- What each kind of term adds to the tables.
-use mathlib.Core.Bool.{Bool, true, false}
+use mathlib.Core.Bool.{Bool}
 use mathlib.Core.List.{List, [], _∷_, _++_, append-nil, append-assoc}
 use mathlib.Core.Path.{_≡_, refl, sym, ap, subst, _∙_}
-use Prim.Native.Nat.{ℕ, suc, _+_, _≤_, _<_, min}
-use native.Mathlib.Nat.{add-zero, add-assoc}
+use Prim.Native.Nat.{ℕ, _+_, _≤_, _<_, min}
+use native.Mathlib.Nat.{add-zero}
 use native.Mathlib.Omega.{arith}
-use lib.ListN.{length, take, set, length-append}
+use lib.ListN.{length, take, length-append}
 use Rattle.formulas.specs.declared.node.Node.{Node}
-use Rattle.formulas.specs.declared.node.Node.the-variants.{State, Dist}
+use Rattle.formulas.specs.declared.node.Node.the-variants.{State}
 use Rattle.formulas.specs.declared.node.StateNode.the-variants.{Step}
-use Rattle.formulas.specs.declared.node.DistNode.the-variants.{Sum}
 use Rattle.formulas.specs.declared.node.Term.{Term}
 use Rattle.formulas.specs.declared.summands.Summands.{Summands}
-use Rattle.formulas.specs.Append.{capped, raised, written, Table, Puts}
+use Rattle.formulas.specs.Append.{capped, raised, Table, Puts}
 use Rattle.formulas.specs.Layout.{run, constant-node, both-node, non-node, node-table, term-table, alternative-table}
-use Rattle.formulas.specs.Lines.{Sort, state, dist, Line, constant, both, non, step, sum}
+use Rattle.formulas.specs.Lines.{Sort, state, dist, Line, both, non, step, sum}
 use Rattle.formulas.specs.Stores.{Store, extended, added, Small, Counted, Wrote, Factored, Summed, PutsMove, PutsHere, PutsSum, term-count, term-counts, step-count, step-counts}
 use Rattle.formulas.specs.Trees.{Tree, leaf, conj, neg, dia, here, at-least, Products, none, product, below, below-products, count, terms, lay, lay-products}
-use Rattle.formulas.proofs.Sizes.{term-table-++, alternative-table-++, node-table-++, length-node-table}
+use Rattle.formulas.proofs.Sizes.{term-table-++, alternative-table-++, node-table-++}
 use Rattle.formulas.proofs.Pasted.{written-++}
 
 -- counts that have not come to their end
 exact : (i n after : ℕ) → capped after ≡ raised i n → after < 4294967295 → after ≡ i + n
 exact i n after e h = grind arith
 
-pub small-before : {s after : Store} {n t a : ℕ} → Counted s n t a after → Small after → Small s
+small-before : {s after : Store} {n t a : ℕ} → Counted s n t a after → Small after → Small s
 small-before {s} {after} {n} {t} {a} c h =
     let ns = exact (s .nodes .fill) n (after .nodes .fill) (c .nodes) (h .nodes) in
     let ts = exact (s .terms .fill) t (after .terms .fill) (c .terms) (h .terms) in

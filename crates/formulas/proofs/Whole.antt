@@ -1,32 +1,31 @@
 -- Two passes over a text.
 use mathlib.Core.Bool.{Bool, true, false, cond, _&&_}
-use mathlib.Core.List.{List, [], _∷_, _++_, append-assoc, append-nil}
+use mathlib.Core.List.{List, []}
 use mathlib.Core.Logic.{⊎-elim}
 use mathlib.Core.Path.{_≡_, refl, sym, ap, subst, _∙_}
-use Prim.Native.Nat.{ℕ, suc, _+_, _≤_, _<_}
+use Prim.Native.Nat.{ℕ, _+_, _≤_, _<_}
 use native.Mathlib.Nat.{zero-add}
 use native.Mathlib.Omega.{arith}
 use denote.Ref.{now}
 use lib.Dec.{leb}
-use lib.ListN.{length, set, drop, length-append}
+use lib.ListN.{length}
 use Rattle.std.proofs.shelf.Tests.{cases-bool, leb-true, leb-false, lt-leb, and-parts, cond-true, cond-false}
 use Rattle.std.specs.Results.{isErr, ErrBy}
 use Rattle.std.specs.declared.result.Result.{Result}
 use Rattle.std.specs.declared.result.Result.the-variants.{Ok, Err}
 use Rattle.formulas.specs.declared.draft.Draft.{Draft}
 use Rattle.formulas.specs.declared.fault.GrammarFault.{GrammarFault}
-use Rattle.formulas.specs.declared.fault.ReadFault.{ReadFault}
-use Rattle.formulas.specs.declared.fault.ReadFault.the-variants.{Text, Tables}
+use Rattle.formulas.specs.declared.fault.ReadFault.the-variants.{Tables}
 use Rattle.formulas.specs.declared.node.Fills.{Fills}
 use Rattle.formulas.specs.declared.words.Words.{Words}
-use Rattle.formulas.specs.Append.{capped, raised, written, Table}
-use Rattle.formulas.specs.Grammar.{Item, items, Out, parse, finish, lone}
+use Rattle.formulas.specs.Append.{capped, raised, written}
+use Rattle.formulas.specs.Grammar.{items, parse, finish, lone}
 use Rattle.formulas.specs.Layout.{node-table, term-table, alternative-table, fills}
-use Rattle.formulas.specs.Lines.{Sort, state}
+use Rattle.formulas.specs.Lines.{state}
 use Rattle.formulas.specs.Productions.{a-term}
 use Rattle.formulas.specs.Reading.{Slots, takes, fits, placed, reading, over, laid, Reads}
 use Rattle.formulas.specs.Readers.{Takes}
-use Rattle.formulas.specs.Stores.{Store, added, Small, Wrote, term-count, step-count}
+use Rattle.formulas.specs.Stores.{Store, Small, Wrote, term-count, step-count}
 use Rattle.formulas.specs.Trees.{Tree, below, lay}
 use Rattle.formulas.specs.Whole.{holding, empty, Whole, Ends}
 use Rattle.formulas.proofs.Sizes.{length-node-table, length-lay, length-term-table, length-alternative-table}

@@ -3,7 +3,7 @@ use mathlib.Core.List.{List}
 use Prim.Native.Nat.{ℕ, _-_}
 use Rattle.formulas.specs.declared.token.Lexeme.{Lexeme}
 use Rattle.formulas.specs.Grammar.{Item, Out, then, number, closed, headed, sum-headed, factor, alone, several, term, sum, quantity, element}
-use Rattle.formulas.specs.Lines.{Sort, state, dist}
+use Rattle.formulas.specs.Lines.{Sort, dist}
 use Rattle.formulas.specs.Trees.{Tree, conj, neg, dia, here, at-least, Products}
 
 abbrev pub a-term : ℕ → Sort → ℕ → List Item → Out Tree

@@ -1,5 +1,5 @@
 -- What the readers of the grammar do: where they stand in the text, and what they find there.
-use mathlib.Core.Bool.{Bool, true, false, cond, _&&_}
+use mathlib.Core.Bool.{true, false, cond, _&&_}
 use mathlib.Core.List.{List, [], _∷_}
 use mathlib.Core.Path.{_≡_}
 use Prim.Native.Nat.{ℕ, _+_, max, _<_, _≤_}
@@ -16,8 +16,8 @@ use Rattle.formulas.specs.declared.fault.WordFault.{WordFault}
 use Rattle.formulas.specs.declared.token.Lexeme.{Lexeme}
 use Rattle.formulas.specs.declared.token.Token.{Token}
 use Rattle.formulas.specs.declared.token.Token.the-variants.{Open, Close, True, False, Prob}
-use Rattle.formulas.specs.declared.token.Start.{Start}
-use Rattle.formulas.specs.declared.token.Start.the-variants.{Constant, Inside}
+use Rattle.formulas.specs.declared.lexer.Start.{Start}
+use Rattle.formulas.specs.declared.lexer.Start.the-variants.{Constant, Inside}
 use Rattle.formulas.specs.declared.words.Words.{Words}
 use Rattle.formulas.specs.Grammar.{Item, items, Out, then, next, is, value, nought, misplaced, too-many}
 

@@ -1,5 +1,4 @@
 -- One pass over a text: what it answers, and what it leaves in the three tables.
-use mathlib.Core.Bool.{Bool, _&&_}
 use mathlib.Core.List.{List, []}
 use mathlib.Core.Path.{_≡_}
 use Prim.Native.Nat.{ℕ}

@@ -39,22 +39,22 @@ pub enum Layer {
 pub impl From<WordFault> for GrammarFault as GrammarFromWord {
     ghost converts = { λ f r. r ≡ Word f };
 
-    fn from(f: WordFault) -> GrammarFault {
-        GrammarFault::Word(f)
+    fn from(fault: WordFault) -> GrammarFault {
+        GrammarFault::Word(fault)
     }
 }
 
 pub impl From<GrammarFault> for ReadFault as ReadFromGrammar {
     ghost converts = { λ f r. r ≡ Text f };
 
-    fn from(f: GrammarFault) -> ReadFault {
-        ReadFault::Text(f)
+    fn from(fault: GrammarFault) -> ReadFault {
+        ReadFault::Text(fault)
     }
 }
 
 impl ReadFault {
     // The number by which the refusal is known.
-    pub fn number(&self) -> u32
+    pub fn number(&self) -> u8
         ensures { λ r. ⌜ r ≡ numberOf (now (self .entry)) ⌝ }
     {
         match self {

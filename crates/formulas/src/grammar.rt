@@ -18,6 +18,7 @@ use crate::lexer::number;
 use crate::lexer::start_prob;
 use crate::lexer::start_sum;
 use crate::lexer::start_term;
+use crate::lexer::Start;
 use crate::node::DistNode;
 use crate::node::Node;
 use crate::node::Run;
@@ -25,7 +26,6 @@ use crate::node::StateNode;
 use crate::node::Term;
 use crate::summands::Summands;
 use crate::token::Lexeme;
-use crate::token::Start;
 use crate::token::Token;
 use crate::words::Words;
 

@@ -8,10 +8,16 @@ use crate::fault::GrammarFault;
 use crate::fault::GrammarFromWord;
 use crate::fault::WordFault;
 use crate::token::Lexeme;
-use crate::token::Start;
 use crate::token::Token;
 use crate::tokens::token as token_of;
 use crate::words::Words;
+
+// How a term begins: with a constant, or with the token behind its parenthesis.
+#[derive(Clone, Copy)]
+pub enum Start {
+    Constant(bool),
+    Inside(Lexeme),
+}
 
 // How many products a sum behind a plus has.
 const FEWEST: usize = 2;

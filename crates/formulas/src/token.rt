@@ -23,10 +23,3 @@ pub struct Lexeme {
     pub token: Token,
     pub place: usize,
 }
-
-// How a term begins: with a constant, or with the token behind its parenthesis.
-#[derive(Clone, Copy)]
-pub enum Start {
-    Constant(bool),
-    Inside(Lexeme),
-}

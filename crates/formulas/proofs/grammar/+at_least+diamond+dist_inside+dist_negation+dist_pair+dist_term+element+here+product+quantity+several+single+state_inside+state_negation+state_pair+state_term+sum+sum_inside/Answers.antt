@@ -1,10 +1,10 @@
 use borrow.Author.Needs.{needs}
-use mathlib.Core.Path.{refl, sym, ap, _∙_}
+use mathlib.Core.Path.{refl}
 use native.Mathlib.Omega.{arith}
-use Rattle.formulas.proofs.Parsing.{term-starts, inside-room, inside-and, inside-not, inside-dia, inside-here, inside-at-least, no-state, no-dist, sum-starts-as, sum-room, sum-times, sum-plus, no-sum, quantity-starts, prob-room, element-full, element-open, number-within}
+use Rattle.formulas.proofs.Parsing.{term-starts, sum-starts-as, quantity-starts, element-full, element-open, number-within}
 use Rattle.formulas.proofs.Storing.{leaf-wrote, neg-wrote, conj-wrote, dia-wrote, here-wrote, at-least-wrote, none-summed, one-summed}
 use Rattle.formulas.proofs.Summing.{partly-none, partly-end, partly-stopped, partly-refused, partly-more}
-use Rattle.formulas.proofs.Taking.{nothing-read, refused-first, known, eased, as-if, stopped, and-so, and-as, and-then}
+use Rattle.formulas.proofs.Taking.{nothing-read, refused-first, known, as-if, stopped, and-so, and-as, and-then}
 use Rattle.formulas.proofs.grammar.+at_least+diamond+dist_inside+dist_negation+dist_pair+dist_term+element+here+product+quantity+several+single+state_inside+state_negation+state_pair+state_term+sum+sum_inside.Needs as need
 
 pub state-term-returns-in-Break-yes : need.state-term-returns-in-Break-yes

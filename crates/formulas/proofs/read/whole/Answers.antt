@@ -1,5 +1,5 @@
 use borrow.Author.Needs.{needs}
-use mathlib.Core.Path.{refl, sym}
+use mathlib.Core.Path.{refl}
 use Rattle.formulas.proofs.Whole.{same-store, whole-refused, parse-stopped, parse-stray, whole-done}
 use Rattle.formulas.proofs.read.whole.Needs as need
 

@@ -1,8 +1,6 @@
-use mathlib.Core.Path.{refl, sym, ap, _∙_}
-use mathlib.Core.Logic.{inl, inr}
+use mathlib.Core.Path.{sym}
 use native.Mathlib.Omega.{arith}
-use borrow.Author.Needs.{needs}
-use Rattle.formulas.proofs.Digits.{Sofar, more, wrong, finished}
+use Rattle.formulas.proofs.Digits.{more, wrong, finished}
 use Rattle.formulas.proofs.tokens.numeral.Needs as need
 
 pub returns-then-d-lt48 : need.returns-then-d-lt48

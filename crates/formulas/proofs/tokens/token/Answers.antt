@@ -1,10 +1,9 @@
-use mathlib.Core.Path.{refl, sym, ap, _∙_}
+use mathlib.Core.Path.{sym, ap, _∙_}
 use native.Mathlib.Omega.{arith}
-use borrow.Author.Needs.{needs}
 use borrow.Author.Tests.{ltb-true, ltb-false}
 use lib.Chars.{codes}
 use Rattle.formulas.specs.Tokens.{tokenOf, reserved, numeralToken}
-use Rattle.formulas.proofs.Digits.{Spells, spelled}
+use Rattle.formulas.proofs.Digits.{spelled}
 use Rattle.formulas.proofs.Reserved.{Apart, not-reserved, other-0, other-1, other-2, other-3, other-4, other-5, other-6}
 use Rattle.formulas.proofs.tokens.token.Needs as need
 use Rattle.formulas.proofs.tokens.token.Needs.{In-rest}

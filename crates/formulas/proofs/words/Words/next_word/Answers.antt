@@ -1,9 +1,8 @@
 use mathlib.Core.Logic.{⊎-elim}
-use mathlib.Core.Path.{refl, sym, ap, _∙_}
+use mathlib.Core.Path.{refl, ap}
 use native.Mathlib.Omega.{arith}
-use borrow.Author.Needs.{needs}
 use Rattle.formulas.specs.Words.{ended}
-use Rattle.formulas.proofs.Scan.{Scan, go, close, close-mode, alone, last, last-within, no-more}
+use Rattle.formulas.proofs.Scan.{go, close, close-mode, alone, last, last-within, no-more}
 use Rattle.formulas.proofs.words.Words.next_word.Needs as need
 
 pub part-result-count : need.part-result-count
