@@ -141,10 +141,10 @@ several stop element zero left ws =
     then (next stop ws) (λ x rest. cond (is Close x) (Ok (none, rest)) (cond (is Open x) (too-many x) (misplaced x)))
 several stop element (suc more) left ws =
     then (next stop ws) (λ x rest.
-      cond (is Close x && leb (suc more) 6) (Ok (none, rest))
-      (cond (is Open x)
-        (then (element x left rest) (λ k r. then (several stop element more (left - k .0) r) (λ ks q. Ok (product (k .0) (k .1) ks, q))))
-        (misplaced x)))
+    cond (is Close x && leb (suc more) 6) (Ok (none, rest))
+    (cond (is Open x)
+    (then (element x left rest) (λ k r. then (several stop element more (left - k .0) r) (λ ks q. Ok (product (k .0) (k .1) ks, q))))
+    (misplaced x)))
 
 -- a sum behind its parenthesis and its first token x
 abbrev pub sum-headed : ℕ → (List Item → Out Tree) → (Lexeme → ℕ → List Item → Out (ℕ × Tree)) → Lexeme → List Item → Out Products
@@ -159,13 +159,13 @@ unfoldable mutual
   term stop zero σ ws = then (next stop ws) (λ x rest. begun x rest (too-many x))
   term stop (suc room) σ ws =
       then (next stop ws) (λ x rest. begun x rest
-        (then (next stop rest) (λ y more. headed stop (λ τ l. term stop room τ l) (λ l. sum stop room l) σ y more)))
+      (then (next stop rest) (λ y more. headed stop (λ τ l. term stop room τ l) (λ l. sum stop room l) σ y more)))
 
   pub sum : ℕ → ℕ → List Item → Out Products
   sum stop zero ws = then (next stop ws) (λ x rest. sum-begun x rest (too-many x))
   sum stop (suc room) ws =
       then (next stop ws) (λ x rest. sum-begun x rest
-        (then (next stop rest) (λ y more. sum-headed stop (λ l. quantity stop room l) (λ z left l. element stop room z left l) y more)))
+      (then (next stop rest) (λ y more. sum-headed stop (λ l. quantity stop room l) (λ z left l. element stop room z left l) y more)))
 
   pub quantity : ℕ → ℕ → List Item → Out Tree
   quantity stop zero ws = then (next stop ws) (λ x rest. cond (is Open x) (too-many x) (misplaced x))

@@ -67,8 +67,8 @@ alternative-table [] = []
 alternative-table (l ∷ ls) = alternatives-in l ++ alternative-table ls
 
 abbrev pub fills : List Line → Fills
-fills ls = record
-  { nodes = length ls
-  ; terms = length (term-table ls)
-  ; alternatives = length (alternative-table ls)
-  }
+fills ls = record {
+  nodes = length ls;
+  terms = length (term-table ls);
+  alternatives = length (alternative-table ls);
+}

@@ -48,11 +48,11 @@ over xs old = xs ++ drop (length xs) old
 
 -- the tables with the lines laid out at their front
 abbrev pub laid : List Line → Slots → Slots
-laid ls s = record
-  { nodes = over (node-table 0 0 ls) (s .nodes)
-  ; terms = over (term-table ls) (s .terms)
-  ; alternatives = over (alternative-table ls) (s .alternatives)
-  }
+laid ls s = record {
+  nodes = over (node-table 0 0 ls) (s .nodes);
+  terms = over (term-table ls) (s .terms);
+  alternatives = over (alternative-table ls) (s .alternatives);
+}
 
 -- what a call answers and leaves: the draft of the tree that is read, laid out; or the fault, and the tables as they were
 abbrev pub Reads : Result Tree ReadFault → Slots → Result Draft ReadFault → Slots → Type 0

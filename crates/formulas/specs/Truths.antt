@@ -53,10 +53,10 @@ abbrev pub of-node : List Truth → ℕ → Move → Bool
 of-node T i = getD T i never .of
 
 abbrev pub truth : Meaning → List Truth → Line → Truth
-truth S T l = record
-  { at = λ s. holds-at S (at-node T) (of-node T) l s
-  ; of = λ mv. holds-of S (at-node T) (of-node T) l mv
-  }
+truth S T l = record {
+  at = λ s. holds-at S (at-node T) (of-node T) l s;
+  of = λ mv. holds-of S (at-node T) (of-node T) l mv;
+}
 
 -- line after line, each from the truths of those before it
 abbrev pub next-truth : Meaning → List Truth → Line → List Truth

@@ -14,11 +14,11 @@ use Rattle.formulas.specs.Trees.{Tree}
 
 -- the tables, filled so far
 abbrev pub holding : Fills → Slots → Store
-holding f s = record
-  { nodes = record { slots = s .nodes; fill = f .nodes }
-  ; terms = record { slots = s .terms; fill = f .terms }
-  ; alternatives = record { slots = s .alternatives; fill = f .alternatives }
-  }
+holding f s = record {
+  nodes = record { slots = s .nodes; fill = f .nodes };
+  terms = record { slots = s .terms; fill = f .terms };
+  alternatives = record { slots = s .alternatives; fill = f .alternatives };
+}
 
 abbrev pub empty : Fills
 empty = record { nodes = 0; terms = 0; alternatives = 0 }

@@ -12,13 +12,13 @@ ghost use Rattle.formulas.specs.Append.{table};
 ghost use Rattle.formulas.specs.Stores.{store, Wrote, Factored, Summed, PutsMove, PutsHere, PutsSum};
 use crate::append::AppendList;
 use crate::fault::GrammarFault;
+use crate::lexer::Start;
 use crate::lexer::another;
 use crate::lexer::expect;
 use crate::lexer::number;
 use crate::lexer::start_prob;
 use crate::lexer::start_sum;
 use crate::lexer::start_term;
-use crate::lexer::Start;
 use crate::node::DistNode;
 use crate::node::Node;
 use crate::node::Run;
@@ -36,17 +36,31 @@ const THOUSAND: u64 = 1000;
 fn state_constant(yes: bool) -> Node
     ensures { λ r. ⌜ r ≡ constantNode state yes ⌝ }
 {
-    if yes { Node::State(StateNode::Yes) } else { Node::State(StateNode::No) }
+    if yes {
+        Node::State(StateNode::Yes)
+    } else {
+        Node::State(StateNode::No)
+    }
 }
 
 fn dist_constant(yes: bool) -> Node
     ensures { λ r. ⌜ r ≡ constantNode dist yes ⌝ }
 {
-    if yes { Node::Dist(DistNode::Yes) } else { Node::Dist(DistNode::No) }
+    if yes {
+        Node::Dist(DistNode::Yes)
+    } else {
+        Node::Dist(DistNode::No)
+    }
 }
 
 // A state term: answers the number of its node.
-pub(crate) fn state_term(words: &mut Words, nodes: &mut AppendList<Node>, terms: &mut AppendList<Term>, alternatives: &mut AppendList<u32>, room: u32) -> Result<u32, GrammarFault>
+pub(crate) fn state_term(
+    words: &mut Words,
+    nodes: &mut AppendList<Node>,
+    terms: &mut AppendList<Term>,
+    alternatives: &mut AppendList<u32>,
+    room: u32,
+) -> Result<u32, GrammarFault>
     ensures lent { λ _. ⌜ (name (now (nodes .exit) .slots) ≡ name (now (nodes .entry) .slots)) × (name (now (terms .exit) .slots) ≡ name (now (terms .entry) .slots)) × (name (now (alternatives .exit) .slots) ≡ name (now (alternatives .entry) .slots)) ⌝ }
     ensures took { λ r. ⌜ Takes 1 (aTerm room state) (Wrote state (store (now (nodes .entry)) (now (terms .entry)) (now (alternatives .entry))) (store (now (nodes .exit)) (now (terms .exit)) (now (alternatives .exit)))) (now (words .entry)) r (now (words .exit)) ⌝ }
 {
@@ -57,7 +71,14 @@ pub(crate) fn state_term(words: &mut Words, nodes: &mut AppendList<Node>, terms:
 }
 
 // A state term behind its parenthesis and its first token.
-fn state_inside(words: &mut Words, nodes: &mut AppendList<Node>, terms: &mut AppendList<Term>, alternatives: &mut AppendList<u32>, room: u32, head: Lexeme) -> Result<u32, GrammarFault>
+fn state_inside(
+    words: &mut Words,
+    nodes: &mut AppendList<Node>,
+    terms: &mut AppendList<Term>,
+    alternatives: &mut AppendList<u32>,
+    room: u32,
+    head: Lexeme,
+) -> Result<u32, GrammarFault>
     ensures lent { λ _. ⌜ (name (now (nodes .exit) .slots) ≡ name (now (nodes .entry) .slots)) × (name (now (terms .exit) .slots) ≡ name (now (terms .entry) .slots)) × (name (now (alternatives .exit) .slots) ≡ name (now (alternatives .entry) .slots)) ⌝ }
     ensures took { λ r. ⌜ Takes 1 (inside room state head) (Wrote state (store (now (nodes .entry)) (now (terms .entry)) (now (alternatives .entry))) (store (now (nodes .exit)) (now (terms .exit)) (now (alternatives .exit)))) (now (words .entry)) r (now (words .exit)) ⌝ }
 {
@@ -70,7 +91,13 @@ fn state_inside(words: &mut Words, nodes: &mut AppendList<Node>, terms: &mut App
     }
 }
 
-fn state_pair(words: &mut Words, nodes: &mut AppendList<Node>, terms: &mut AppendList<Term>, alternatives: &mut AppendList<u32>, room: u32) -> Result<u32, GrammarFault>
+fn state_pair(
+    words: &mut Words,
+    nodes: &mut AppendList<Node>,
+    terms: &mut AppendList<Term>,
+    alternatives: &mut AppendList<u32>,
+    room: u32,
+) -> Result<u32, GrammarFault>
     ensures lent { λ _. ⌜ (name (now (nodes .exit) .slots) ≡ name (now (nodes .entry) .slots)) × (name (now (terms .exit) .slots) ≡ name (now (terms .entry) .slots)) × (name (now (alternatives .exit) .slots) ≡ name (now (alternatives .entry) .slots)) ⌝ }
     ensures took { λ r. ⌜ Takes 1 (pair room state) (Wrote state (store (now (nodes .entry)) (now (terms .entry)) (now (alternatives .entry))) (store (now (nodes .exit)) (now (terms .exit)) (now (alternatives .exit)))) (now (words .entry)) r (now (words .exit)) ⌝ }
 {
@@ -80,7 +107,13 @@ fn state_pair(words: &mut Words, nodes: &mut AppendList<Node>, terms: &mut Appen
     Ok(nodes.put(Node::State(StateNode::And(a, b))))
 }
 
-fn state_negation(words: &mut Words, nodes: &mut AppendList<Node>, terms: &mut AppendList<Term>, alternatives: &mut AppendList<u32>, room: u32) -> Result<u32, GrammarFault>
+fn state_negation(
+    words: &mut Words,
+    nodes: &mut AppendList<Node>,
+    terms: &mut AppendList<Term>,
+    alternatives: &mut AppendList<u32>,
+    room: u32,
+) -> Result<u32, GrammarFault>
     ensures lent { λ _. ⌜ (name (now (nodes .exit) .slots) ≡ name (now (nodes .entry) .slots)) × (name (now (terms .exit) .slots) ≡ name (now (terms .entry) .slots)) × (name (now (alternatives .exit) .slots) ≡ name (now (alternatives .entry) .slots)) ⌝ }
     ensures took { λ r. ⌜ Takes 1 (negation room state) (Wrote state (store (now (nodes .entry)) (now (terms .entry)) (now (alternatives .entry))) (store (now (nodes .exit)) (now (terms .exit)) (now (alternatives .exit)))) (now (words .entry)) r (now (words .exit)) ⌝ }
 {
@@ -90,14 +123,26 @@ fn state_negation(words: &mut Words, nodes: &mut AppendList<Node>, terms: &mut A
 }
 
 // Writes a step with one move alternative.
-fn put_move(nodes: &mut AppendList<Node>, alternatives: &mut AppendList<u32>, action: u32, part: u32) -> u32
+fn put_move(
+    nodes: &mut AppendList<Node>,
+    alternatives: &mut AppendList<u32>,
+    action: u32,
+    part: u32,
+) -> u32
     ensures lent { λ _. ⌜ (name (now (nodes .exit) .slots) ≡ name (now (nodes .entry) .slots)) × (name (now (alternatives .exit) .slots) ≡ name (now (alternatives .entry) .slots)) ⌝ }
     ensures wrote { λ r. ⌜ PutsMove (table (now (nodes .entry))) (table (now (alternatives .entry))) action part r (table (now (nodes .exit))) (table (now (alternatives .exit))) ⌝ }
 {
     let first = alternatives.put(part);
     let moves = Run { first, count: 1 };
-    let heres = Run { first: alternatives.fill, count: 0 };
-    nodes.put(Node::State(StateNode::Step { action, moves, heres }))
+    let heres = Run {
+        first: alternatives.fill,
+        count: 0,
+    };
+    nodes.put(Node::State(StateNode::Step {
+        action,
+        moves,
+        heres,
+    }))
 }
 
 // Writes a step with one here alternative.
@@ -105,24 +150,45 @@ fn put_here(nodes: &mut AppendList<Node>, alternatives: &mut AppendList<u32>, pa
     ensures lent { λ _. ⌜ (name (now (nodes .exit) .slots) ≡ name (now (nodes .entry) .slots)) × (name (now (alternatives .exit) .slots) ≡ name (now (alternatives .entry) .slots)) ⌝ }
     ensures wrote { λ r. ⌜ PutsHere (table (now (nodes .entry))) (table (now (alternatives .entry))) part r (table (now (nodes .exit))) (table (now (alternatives .exit))) ⌝ }
 {
-    let moves = Run { first: alternatives.fill, count: 0 };
+    let moves = Run {
+        first: alternatives.fill,
+        count: 0,
+    };
     let first = alternatives.put(part);
     let heres = Run { first, count: 1 };
-    nodes.put(Node::State(StateNode::Step { action: 0, moves, heres }))
+    nodes.put(Node::State(StateNode::Step {
+        action: 0,
+        moves,
+        heres,
+    }))
 }
 
 // Writes a sum and its terms.
-fn put_sum(nodes: &mut AppendList<Node>, terms: &mut AppendList<Term>, summands: &Summands, threshold: u64) -> u32
+fn put_sum(
+    nodes: &mut AppendList<Node>,
+    terms: &mut AppendList<Term>,
+    summands: &Summands,
+    threshold: u64,
+) -> u32
     requires { ⌜ now summands .count ≤ 8 ⌝ }
     ensures lent { λ _. ⌜ (name (now (nodes .exit) .slots) ≡ name (now (nodes .entry) .slots)) × (name (now (terms .exit) .slots) ≡ name (now (terms .entry) .slots)) ⌝ }
     ensures wrote { λ r. ⌜ PutsSum (table (now (nodes .entry))) (table (now (terms .entry))) (take (now (summands .entry) .count) (now (summands .entry) .terms)) threshold r (table (now (nodes .exit))) (table (now (terms .exit))) ⌝ }
 {
     let first = terms.put_all(&summands.terms[0..summands.count]);
-    let terms = Run { first, count: summands.count as u32 };
+    let terms = Run {
+        first,
+        count: summands.count as u32,
+    };
     nodes.put(Node::Dist(DistNode::Sum { threshold, terms }))
 }
 
-fn diamond(words: &mut Words, nodes: &mut AppendList<Node>, terms: &mut AppendList<Term>, alternatives: &mut AppendList<u32>, room: u32) -> Result<u32, GrammarFault>
+fn diamond(
+    words: &mut Words,
+    nodes: &mut AppendList<Node>,
+    terms: &mut AppendList<Term>,
+    alternatives: &mut AppendList<u32>,
+    room: u32,
+) -> Result<u32, GrammarFault>
     ensures lent { λ _. ⌜ (name (now (nodes .exit) .slots) ≡ name (now (nodes .entry) .slots)) × (name (now (terms .exit) .slots) ≡ name (now (terms .entry) .slots)) × (name (now (alternatives .exit) .slots) ≡ name (now (alternatives .entry) .slots)) ⌝ }
     ensures took { λ r. ⌜ Takes 1 (aDiamond room) (Wrote state (store (now (nodes .entry)) (now (terms .entry)) (now (alternatives .entry))) (store (now (nodes .exit)) (now (terms .exit)) (now (alternatives .exit)))) (now (words .entry)) r (now (words .exit)) ⌝ }
 {
@@ -132,7 +198,13 @@ fn diamond(words: &mut Words, nodes: &mut AppendList<Node>, terms: &mut AppendLi
     Ok(put_move(nodes, alternatives, action as u32, d))
 }
 
-fn here(words: &mut Words, nodes: &mut AppendList<Node>, terms: &mut AppendList<Term>, alternatives: &mut AppendList<u32>, room: u32) -> Result<u32, GrammarFault>
+fn here(
+    words: &mut Words,
+    nodes: &mut AppendList<Node>,
+    terms: &mut AppendList<Term>,
+    alternatives: &mut AppendList<u32>,
+    room: u32,
+) -> Result<u32, GrammarFault>
     ensures lent { λ _. ⌜ (name (now (nodes .exit) .slots) ≡ name (now (nodes .entry) .slots)) × (name (now (terms .exit) .slots) ≡ name (now (terms .entry) .slots)) × (name (now (alternatives .exit) .slots) ≡ name (now (alternatives .entry) .slots)) ⌝ }
     ensures took { λ r. ⌜ Takes 1 (standing room) (Wrote state (store (now (nodes .entry)) (now (terms .entry)) (now (alternatives .entry))) (store (now (nodes .exit)) (now (terms .exit)) (now (alternatives .exit)))) (now (words .entry)) r (now (words .exit)) ⌝ }
 {
@@ -142,7 +214,13 @@ fn here(words: &mut Words, nodes: &mut AppendList<Node>, terms: &mut AppendList<
 }
 
 // A distribution term: answers the number of its node.
-fn dist_term(words: &mut Words, nodes: &mut AppendList<Node>, terms: &mut AppendList<Term>, alternatives: &mut AppendList<u32>, room: u32) -> Result<u32, GrammarFault>
+fn dist_term(
+    words: &mut Words,
+    nodes: &mut AppendList<Node>,
+    terms: &mut AppendList<Term>,
+    alternatives: &mut AppendList<u32>,
+    room: u32,
+) -> Result<u32, GrammarFault>
     ensures lent { λ _. ⌜ (name (now (nodes .exit) .slots) ≡ name (now (nodes .entry) .slots)) × (name (now (terms .exit) .slots) ≡ name (now (terms .entry) .slots)) × (name (now (alternatives .exit) .slots) ≡ name (now (alternatives .entry) .slots)) ⌝ }
     ensures took { λ r. ⌜ Takes 1 (aTerm room dist) (Wrote dist (store (now (nodes .entry)) (now (terms .entry)) (now (alternatives .entry))) (store (now (nodes .exit)) (now (terms .exit)) (now (alternatives .exit)))) (now (words .entry)) r (now (words .exit)) ⌝ }
 {
@@ -153,7 +231,14 @@ fn dist_term(words: &mut Words, nodes: &mut AppendList<Node>, terms: &mut Append
 }
 
 // A distribution term behind its parenthesis and its first token.
-fn dist_inside(words: &mut Words, nodes: &mut AppendList<Node>, terms: &mut AppendList<Term>, alternatives: &mut AppendList<u32>, room: u32, head: Lexeme) -> Result<u32, GrammarFault>
+fn dist_inside(
+    words: &mut Words,
+    nodes: &mut AppendList<Node>,
+    terms: &mut AppendList<Term>,
+    alternatives: &mut AppendList<u32>,
+    room: u32,
+    head: Lexeme,
+) -> Result<u32, GrammarFault>
     ensures lent { λ _. ⌜ (name (now (nodes .exit) .slots) ≡ name (now (nodes .entry) .slots)) × (name (now (terms .exit) .slots) ≡ name (now (terms .entry) .slots)) × (name (now (alternatives .exit) .slots) ≡ name (now (alternatives .entry) .slots)) ⌝ }
     ensures took { λ r. ⌜ Takes 1 (inside room dist head) (Wrote dist (store (now (nodes .entry)) (now (terms .entry)) (now (alternatives .entry))) (store (now (nodes .exit)) (now (terms .exit)) (now (alternatives .exit)))) (now (words .entry)) r (now (words .exit)) ⌝ }
 {
@@ -165,7 +250,13 @@ fn dist_inside(words: &mut Words, nodes: &mut AppendList<Node>, terms: &mut Appe
     }
 }
 
-fn dist_pair(words: &mut Words, nodes: &mut AppendList<Node>, terms: &mut AppendList<Term>, alternatives: &mut AppendList<u32>, room: u32) -> Result<u32, GrammarFault>
+fn dist_pair(
+    words: &mut Words,
+    nodes: &mut AppendList<Node>,
+    terms: &mut AppendList<Term>,
+    alternatives: &mut AppendList<u32>,
+    room: u32,
+) -> Result<u32, GrammarFault>
     ensures lent { λ _. ⌜ (name (now (nodes .exit) .slots) ≡ name (now (nodes .entry) .slots)) × (name (now (terms .exit) .slots) ≡ name (now (terms .entry) .slots)) × (name (now (alternatives .exit) .slots) ≡ name (now (alternatives .entry) .slots)) ⌝ }
     ensures took { λ r. ⌜ Takes 1 (pair room dist) (Wrote dist (store (now (nodes .entry)) (now (terms .entry)) (now (alternatives .entry))) (store (now (nodes .exit)) (now (terms .exit)) (now (alternatives .exit)))) (now (words .entry)) r (now (words .exit)) ⌝ }
 {
@@ -175,7 +266,13 @@ fn dist_pair(words: &mut Words, nodes: &mut AppendList<Node>, terms: &mut Append
     Ok(nodes.put(Node::Dist(DistNode::And(a, b))))
 }
 
-fn dist_negation(words: &mut Words, nodes: &mut AppendList<Node>, terms: &mut AppendList<Term>, alternatives: &mut AppendList<u32>, room: u32) -> Result<u32, GrammarFault>
+fn dist_negation(
+    words: &mut Words,
+    nodes: &mut AppendList<Node>,
+    terms: &mut AppendList<Term>,
+    alternatives: &mut AppendList<u32>,
+    room: u32,
+) -> Result<u32, GrammarFault>
     ensures lent { λ _. ⌜ (name (now (nodes .exit) .slots) ≡ name (now (nodes .entry) .slots)) × (name (now (terms .exit) .slots) ≡ name (now (terms .entry) .slots)) × (name (now (alternatives .exit) .slots) ≡ name (now (alternatives .entry) .slots)) ⌝ }
     ensures took { λ r. ⌜ Takes 1 (negation room dist) (Wrote dist (store (now (nodes .entry)) (now (terms .entry)) (now (alternatives .entry))) (store (now (nodes .exit)) (now (terms .exit)) (now (alternatives .exit)))) (now (words .entry)) r (now (words .exit)) ⌝ }
 {
@@ -184,7 +281,13 @@ fn dist_negation(words: &mut Words, nodes: &mut AppendList<Node>, terms: &mut Ap
     Ok(nodes.put(Node::Dist(DistNode::Not(a))))
 }
 
-fn at_least(words: &mut Words, nodes: &mut AppendList<Node>, terms: &mut AppendList<Term>, alternatives: &mut AppendList<u32>, room: u32) -> Result<u32, GrammarFault>
+fn at_least(
+    words: &mut Words,
+    nodes: &mut AppendList<Node>,
+    terms: &mut AppendList<Term>,
+    alternatives: &mut AppendList<u32>,
+    room: u32,
+) -> Result<u32, GrammarFault>
     ensures lent { λ _. ⌜ (name (now (nodes .exit) .slots) ≡ name (now (nodes .entry) .slots)) × (name (now (terms .exit) .slots) ≡ name (now (terms .entry) .slots)) × (name (now (alternatives .exit) .slots) ≡ name (now (alternatives .entry) .slots)) ⌝ }
     ensures took { λ r. ⌜ Takes 1 (aThreshold room) (Wrote dist (store (now (nodes .entry)) (now (terms .entry)) (now (alternatives .entry))) (store (now (nodes .exit)) (now (terms .exit)) (now (alternatives .exit)))) (now (words .entry)) r (now (words .exit)) ⌝ }
 {
@@ -195,7 +298,13 @@ fn at_least(words: &mut Words, nodes: &mut AppendList<Node>, terms: &mut AppendL
 }
 
 // The sum of a threshold: its terms are kept until the threshold closes.
-fn sum(words: &mut Words, nodes: &mut AppendList<Node>, terms: &mut AppendList<Term>, alternatives: &mut AppendList<u32>, room: u32) -> Result<Summands, GrammarFault>
+fn sum(
+    words: &mut Words,
+    nodes: &mut AppendList<Node>,
+    terms: &mut AppendList<Term>,
+    alternatives: &mut AppendList<u32>,
+    room: u32,
+) -> Result<Summands, GrammarFault>
     ensures lent { λ _. ⌜ (name (now (nodes .exit) .slots) ≡ name (now (nodes .entry) .slots)) × (name (now (terms .exit) .slots) ≡ name (now (terms .entry) .slots)) × (name (now (alternatives .exit) .slots) ≡ name (now (alternatives .entry) .slots)) ⌝ }
     ensures took { λ r. ⌜ Takes 1 (aSum room) (Summed (store (now (nodes .entry)) (now (terms .entry)) (now (alternatives .entry))) (store (now (nodes .exit)) (now (terms .exit)) (now (alternatives .exit)))) (now (words .entry)) r (now (words .exit)) ⌝ }
 {
@@ -205,7 +314,14 @@ fn sum(words: &mut Words, nodes: &mut AppendList<Node>, terms: &mut AppendList<T
     }
 }
 
-fn sum_inside(words: &mut Words, nodes: &mut AppendList<Node>, terms: &mut AppendList<Term>, alternatives: &mut AppendList<u32>, room: u32, head: Lexeme) -> Result<Summands, GrammarFault>
+fn sum_inside(
+    words: &mut Words,
+    nodes: &mut AppendList<Node>,
+    terms: &mut AppendList<Term>,
+    alternatives: &mut AppendList<u32>,
+    room: u32,
+    head: Lexeme,
+) -> Result<Summands, GrammarFault>
     ensures lent { λ _. ⌜ (name (now (nodes .exit) .slots) ≡ name (now (nodes .entry) .slots)) × (name (now (terms .exit) .slots) ≡ name (now (terms .entry) .slots)) × (name (now (alternatives .exit) .slots) ≡ name (now (alternatives .entry) .slots)) ⌝ }
     ensures took { λ r. ⌜ Takes 0 (sumInside room head) (Summed (store (now (nodes .entry)) (now (terms .entry)) (now (alternatives .entry))) (store (now (nodes .exit)) (now (terms .exit)) (now (alternatives .exit)))) (now (words .entry)) r (now (words .exit)) ⌝ }
 {
@@ -216,7 +332,13 @@ fn sum_inside(words: &mut Words, nodes: &mut AppendList<Node>, terms: &mut Appen
     }
 }
 
-fn single(words: &mut Words, nodes: &mut AppendList<Node>, terms: &mut AppendList<Term>, alternatives: &mut AppendList<u32>, room: u32) -> Result<Summands, GrammarFault>
+fn single(
+    words: &mut Words,
+    nodes: &mut AppendList<Node>,
+    terms: &mut AppendList<Term>,
+    alternatives: &mut AppendList<u32>,
+    room: u32,
+) -> Result<Summands, GrammarFault>
     ensures lent { λ _. ⌜ (name (now (nodes .exit) .slots) ≡ name (now (nodes .entry) .slots)) × (name (now (terms .exit) .slots) ≡ name (now (terms .entry) .slots)) × (name (now (alternatives .exit) .slots) ≡ name (now (alternatives .entry) .slots)) ⌝ }
     ensures took { λ r. ⌜ Takes 1 (oneProduct room) (Summed (store (now (nodes .entry)) (now (terms .entry)) (now (alternatives .entry))) (store (now (nodes .exit)) (now (terms .exit)) (now (alternatives .exit)))) (now (words .entry)) r (now (words .exit)) ⌝ }
 {
@@ -226,7 +348,13 @@ fn single(words: &mut Words, nodes: &mut AppendList<Node>, terms: &mut AppendLis
     Ok(found)
 }
 
-fn several(words: &mut Words, nodes: &mut AppendList<Node>, terms: &mut AppendList<Term>, alternatives: &mut AppendList<u32>, room: u32) -> Result<Summands, GrammarFault>
+fn several(
+    words: &mut Words,
+    nodes: &mut AppendList<Node>,
+    terms: &mut AppendList<Term>,
+    alternatives: &mut AppendList<u32>,
+    room: u32,
+) -> Result<Summands, GrammarFault>
     ensures lent { λ _. ⌜ (name (now (nodes .exit) .slots) ≡ name (now (nodes .entry) .slots)) × (name (now (terms .exit) .slots) ≡ name (now (terms .entry) .slots)) × (name (now (alternatives .exit) .slots) ≡ name (now (alternatives .entry) .slots)) ⌝ }
     ensures took { λ r. ⌜ Takes 0 (productsFrom room 0 1000) (Summed (store (now (nodes .entry)) (now (terms .entry)) (now (alternatives .entry))) (store (now (nodes .exit)) (now (terms .exit)) (now (alternatives .exit)))) (now (words .entry)) r (now (words .exit)) ⌝ }
 {
@@ -241,7 +369,15 @@ fn several(words: &mut Words, nodes: &mut AppendList<Node>, terms: &mut AppendLi
 }
 
 // One of several products, behind its parenthesis `x`.
-fn element(words: &mut Words, nodes: &mut AppendList<Node>, terms: &mut AppendList<Term>, alternatives: &mut AppendList<u32>, room: u32, x: Lexeme, left: u64) -> Result<Term, GrammarFault>
+fn element(
+    words: &mut Words,
+    nodes: &mut AppendList<Node>,
+    terms: &mut AppendList<Term>,
+    alternatives: &mut AppendList<u32>,
+    room: u32,
+    x: Lexeme,
+    left: u64,
+) -> Result<Term, GrammarFault>
     ensures lent { λ _. ⌜ (name (now (nodes .exit) .slots) ≡ name (now (nodes .entry) .slots)) × (name (now (terms .exit) .slots) ≡ name (now (terms .entry) .slots)) × (name (now (alternatives .exit) .slots) ≡ name (now (alternatives .entry) .slots)) ⌝ }
     ensures took { λ r. ⌜ Takes 1 (anElement room x left) (Factored left (store (now (nodes .entry)) (now (terms .entry)) (now (alternatives .entry))) (store (now (nodes .exit)) (now (terms .exit)) (now (alternatives .exit)))) (now (words .entry)) r (now (words .exit)) ⌝ }
 {
@@ -253,7 +389,14 @@ fn element(words: &mut Words, nodes: &mut AppendList<Node>, terms: &mut AppendLi
 }
 
 // A product behind its `*`, of a coefficient of at most `left`.
-fn product(words: &mut Words, nodes: &mut AppendList<Node>, terms: &mut AppendList<Term>, alternatives: &mut AppendList<u32>, room: u32, left: u64) -> Result<Term, GrammarFault>
+fn product(
+    words: &mut Words,
+    nodes: &mut AppendList<Node>,
+    terms: &mut AppendList<Term>,
+    alternatives: &mut AppendList<u32>,
+    room: u32,
+    left: u64,
+) -> Result<Term, GrammarFault>
     ensures lent { λ _. ⌜ (name (now (nodes .exit) .slots) ≡ name (now (nodes .entry) .slots)) × (name (now (terms .exit) .slots) ≡ name (now (terms .entry) .slots)) × (name (now (alternatives .exit) .slots) ≡ name (now (alternatives .entry) .slots)) ⌝ }
     ensures took { λ r. ⌜ Takes 1 (aProduct room left) (Factored left (store (now (nodes .entry)) (now (terms .entry)) (now (alternatives .entry))) (store (now (nodes .exit)) (now (terms .exit)) (now (alternatives .exit)))) (now (words .entry)) r (now (words .exit)) ⌝ }
 {
@@ -263,7 +406,13 @@ fn product(words: &mut Words, nodes: &mut AppendList<Node>, terms: &mut AppendLi
     Ok(Term { coefficient, node })
 }
 
-fn quantity(words: &mut Words, nodes: &mut AppendList<Node>, terms: &mut AppendList<Term>, alternatives: &mut AppendList<u32>, room: u32) -> Result<u32, GrammarFault>
+fn quantity(
+    words: &mut Words,
+    nodes: &mut AppendList<Node>,
+    terms: &mut AppendList<Term>,
+    alternatives: &mut AppendList<u32>,
+    room: u32,
+) -> Result<u32, GrammarFault>
     ensures lent { λ _. ⌜ (name (now (nodes .exit) .slots) ≡ name (now (nodes .entry) .slots)) × (name (now (terms .exit) .slots) ≡ name (now (terms .entry) .slots)) × (name (now (alternatives .exit) .slots) ≡ name (now (alternatives .entry) .slots)) ⌝ }
     ensures took { λ r. ⌜ Takes 1 (aQuantity room) (Wrote state (store (now (nodes .entry)) (now (terms .entry)) (now (alternatives .entry))) (store (now (nodes .exit)) (now (terms .exit)) (now (alternatives .exit)))) (now (words .entry)) r (now (words .exit)) ⌝ }
 {

@@ -34,16 +34,31 @@ fn end(words: &mut Words) -> Result<(), GrammarFault>
 }
 
 // One pass over a text: writes its formula as far as the tables reach, and answers the formula's counts and its root.
-fn whole(text: &[u8], nodes: &mut [Node], terms: &mut [Term], alternatives: &mut [u32]) -> Result<(Fills, u32), GrammarFault>
+fn whole(
+    text: &[u8],
+    nodes: &mut [Node],
+    terms: &mut [Term],
+    alternatives: &mut [u32],
+) -> Result<(Fills, u32), GrammarFault>
     ensures { λ r. ⌜ Whole (parse (now (text .entry))) (record { nodes = now (nodes .entry); terms = now (terms .entry); alternatives = now (alternatives .entry) }) r (record { nodes = now (nodes .exit); terms = now (terms .exit); alternatives = now (alternatives .exit) }) ⌝ }
 {
     let mut words = Words::new(text);
     let mut nodes = AppendList::new(nodes);
     let mut terms = AppendList::new(terms);
     let mut alternatives = AppendList::new(alternatives);
-    let root = state_term(&mut words, &mut nodes, &mut terms, &mut alternatives, MOST_OPEN)?;
+    let root = state_term(
+        &mut words,
+        &mut nodes,
+        &mut terms,
+        &mut alternatives,
+        MOST_OPEN,
+    )?;
     end(&mut words)?;
-    let fills = Fills { nodes: nodes.fill, terms: terms.fill, alternatives: alternatives.fill };
+    let fills = Fills {
+        nodes: nodes.fill,
+        terms: terms.fill,
+        alternatives: alternatives.fill,
+    };
     Ok((fills, root))
 }
 
@@ -61,7 +76,12 @@ fn take_all(nodes: usize, terms: usize, alternatives: usize, need: Fills) -> boo
 }
 
 // Reads a text twice: to count what it needs, and, where the tables take that, to write it.
-fn read_twice(text: &[u8], nodes: &mut [Node], terms: &mut [Term], alternatives: &mut [u32]) -> Result<Draft, ReadFault>
+fn read_twice(
+    text: &[u8],
+    nodes: &mut [Node],
+    terms: &mut [Term],
+    alternatives: &mut [u32],
+) -> Result<Draft, ReadFault>
     ensures { λ r. ⌜ Reads (reading (now (text .entry)) (record { nodes = now (nodes .entry); terms = now (terms .entry); alternatives = now (alternatives .entry) })) (record { nodes = now (nodes .entry); terms = now (terms .entry); alternatives = now (alternatives .entry) }) r (record { nodes = now (nodes .exit); terms = now (terms .exit); alternatives = now (alternatives .exit) }) ⌝ }
 {
     let mut no_nodes: [Node; 0] = [];
@@ -76,7 +96,12 @@ fn read_twice(text: &[u8], nodes: &mut [Node], terms: &mut [Term], alternatives:
 }
 
 // Reads a text into a draft, its formula laid out at the front of the tables; a refused text leaves the tables as they were.
-pub fn read(text: &[u8], nodes: &mut [Node], terms: &mut [Term], alternatives: &mut [u32]) -> Result<Draft, ReadFault>
+pub fn read(
+    text: &[u8],
+    nodes: &mut [Node],
+    terms: &mut [Term],
+    alternatives: &mut [u32],
+) -> Result<Draft, ReadFault>
     ensures reads { λ r. ⌜ Reads (reading (now (text .entry)) (record { nodes = now (nodes .entry); terms = now (terms .entry); alternatives = now (alternatives .entry) })) (record { nodes = now (nodes .entry); terms = now (terms .entry); alternatives = now (alternatives .entry) }) r (record { nodes = now (nodes .exit); terms = now (terms .exit); alternatives = now (alternatives .exit) }) ⌝ }
     ensures law { λ _. ⌜ Reading-law ⌝ }
 {

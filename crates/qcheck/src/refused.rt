@@ -16,18 +16,30 @@ pub struct Refused {
 }
 
 pub fn by_number(number: u8) -> Refused {
-    Refused { number, place: None, layer: None }
+    Refused {
+        number,
+        place: None,
+        layer: None,
+    }
 }
 
 pub fn by_read(fault: &ReadFault) -> Refused {
-    Refused { number: fault.number(), place: fault.place(), layer: Some(fault.layer()) }
+    Refused {
+        number: fault.number(),
+        place: fault.place(),
+        layer: Some(fault.layer()),
+    }
 }
 
 // A component is refused for its records, or there was no memory for it.
 pub fn by_mount(fault: &MountFault) -> Option<Refused> {
     let number = fault.number()?;
     let place = fault.place()?;
-    Some(Refused { number, place: Some(place as usize), layer: None })
+    Some(Refused {
+        number,
+        place: Some(place as usize),
+        layer: None,
+    })
 }
 
 // What a refusal means.

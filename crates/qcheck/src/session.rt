@@ -1,9 +1,4 @@
 // A job as it runs: the systems by name, and the claim with its tables.
-use claims::claim::Claim;
-use claims::fault::Refusal;
-use claims::opening::open;
-use claims::tables::Tables;
-use claims::verdict::Verdict;
 use crate::refused::by_mount;
 use crate::refused::by_number;
 use crate::refused::by_read;
@@ -20,6 +15,11 @@ use crate::words::number;
 use crate::words::promise_text;
 use crate::words::split;
 use crate::words::target;
+use claims::claim::Claim;
+use claims::fault::Refusal;
+use claims::opening::open;
+use claims::tables::Tables;
+use claims::verdict::Verdict;
 use formulas::draft::Draft;
 use formulas::node::Fills;
 use formulas::node::Node;
@@ -132,7 +132,11 @@ impl Session {
                 self.find(name)?;
                 self.not_yet(rt, command)
             }
-            [word, ..] => Err(misread(self.heap, "unknown command or wrong number of words:", word)),
+            [word, ..] => Err(misread(
+                self.heap,
+                "unknown command or wrong number of words:",
+                word,
+            )),
             [] => Ok(()),
         }
     }
@@ -198,12 +202,20 @@ impl Session {
             return Ok(());
         };
         let name = started.name.as_str();
-        match Component::mount(self.heap, started.states, started.moves.as_slice(), started.targets.as_slice()) {
+        match Component::mount(
+            self.heap,
+            started.states,
+            started.moves.as_slice(),
+            started.targets.as_slice(),
+        ) {
             Ok(component) => {
                 let states = component.states();
                 let breadth = component.breadth();
                 let moves = started.moves.len();
-                println!(rt, "component {name}: {states} states, {moves} moves, breadth {breadth}")?;
+                println!(
+                    rt,
+                    "component {name}: {states} states, {moves} moves, breadth {breadth}"
+                )?;
                 self.keep(name, AnySystem::Component(component))
             }
             Err(fault) => match by_mount(&fault) {
@@ -217,7 +229,12 @@ impl Session {
         }
     }
 
-    fn make_lane(&mut self, rt: &LibcRuntime, name: &str, made: Result<Lane, Fault>) -> Result<(), AnyError> {
+    fn make_lane(
+        &mut self,
+        rt: &LibcRuntime,
+        name: &str,
+        made: Result<Lane, Fault>,
+    ) -> Result<(), AnyError> {
         self.check_fresh(name)?;
         match made {
             Ok(lane) => {
@@ -240,9 +257,17 @@ impl Session {
         // each entry has a word of its own in the text
         let room = text.len().min(MOST_ENTRIES);
         self.nodes = vec![in self.heap; Node::State(StateNode::Yes); room]?;
-        self.terms = vec![in self.heap; Term { coefficient: 0, node: 0 }; room]?;
+        self.terms = vec![in self.heap; Term {
+            coefficient: 0,
+            node: 0
+        }; room]?;
         self.alternatives = vec![in self.heap; 0u32; room]?;
-        match read(text.as_bytes(), self.nodes.as_mut_slice(), self.terms.as_mut_slice(), self.alternatives.as_mut_slice()) {
+        match read(
+            text.as_bytes(),
+            self.nodes.as_mut_slice(),
+            self.terms.as_mut_slice(),
+            self.alternatives.as_mut_slice(),
+        ) {
             Ok(draft) => self.open_draft(rt, draft),
             Err(fault) => {
                 print_refusal(rt, "promise", by_read(&fault))?;
@@ -296,7 +321,12 @@ impl Session {
         self.find(name)
     }
 
-    fn judge_piled(&self, rt: &LibcRuntime, command: &[&str], words: &[&str]) -> Result<(), AnyError> {
+    fn judge_piled(
+        &self,
+        rt: &LibcRuntime,
+        command: &[&str],
+        words: &[&str],
+    ) -> Result<(), AnyError> {
         let written = joined(self.heap, command)?;
         let shared = match &self.claim {
             Some(claim) => claim.shared(),
@@ -307,7 +337,11 @@ impl Session {
             println!(rt, "{written}: no claim")?;
             return Ok(());
         };
-        let bench = Bench { heap: self.heap, claim, tables: self.tables() };
+        let bench = Bench {
+            heap: self.heap,
+            claim,
+            tables: self.tables(),
+        };
         match judge_stack(&bench, &mut stack, lowest)? {
             Answer::Said(Verdict::Yes) => println!(rt, "{written}: yes")?,
             Answer::Said(Verdict::No) => println!(rt, "{written}: no")?,
@@ -338,18 +372,39 @@ fn print_fills(rt: &LibcRuntime, action: &str, fills: Fills) -> io::Result<()> {
     let nodes = fills.nodes;
     let terms = fills.terms;
     let alternatives = fills.alternatives;
-    println!(rt, "{action}: {nodes} nodes, {terms} terms, {alternatives} alternatives")
+    println!(
+        rt,
+        "{action}: {nodes} nodes, {terms} terms, {alternatives} alternatives"
+    )
 }
 
 // Adds a move and its targets to a component's tables.
-fn add_record(started: &mut Started, heap: Global, state: u32, action: u32, targets: &[&str]) -> Result<(), AnyError> {
+fn add_record(
+    started: &mut Started,
+    heap: Global,
+    state: u32,
+    action: u32,
+    targets: &[&str],
+) -> Result<(), AnyError> {
     let first = started.targets.len();
     for word in targets {
         let (state, weight) = target(heap, word)?;
-        started.targets.push(Target { state, weight: weight as u64 })?;
+        started
+            .targets
+            .push(Target {
+                state,
+                weight: weight as u64,
+            })?;
     }
     let first = first.min(LARGEST) as u32;
     let count = targets.len().min(LARGEST) as u32;
-    started.moves.push(MoveRecord { state, action, first, count })?;
+    started
+        .moves
+        .push(MoveRecord {
+            state,
+            action,
+            first,
+            count,
+        })?;
     Ok(())
 }

@@ -12,7 +12,11 @@ fn print_alternatives(rt: &LibcRuntime, tables: &Tables, run: Run) -> io::Result
     if run.count == 0 {
         return print!(rt, " -");
     }
-    for d in tables.alternatives.iter().skip(run.first as usize).take(run.count as usize) {
+    for d in tables
+        .alternatives
+        .iter()
+        .skip(run.first as usize)
+        .take(run.count as usize) {
         print!(rt, " {d}")?;
     }
     Ok(())
@@ -23,7 +27,11 @@ fn print_terms(rt: &LibcRuntime, tables: &Tables, run: Run) -> io::Result<()> {
     if run.count == 0 {
         return print!(rt, " -");
     }
-    for t in tables.terms.iter().skip(run.first as usize).take(run.count as usize) {
+    for t in tables
+        .terms
+        .iter()
+        .skip(run.first as usize)
+        .take(run.count as usize) {
         let coefficient = t.coefficient;
         let node = t.node;
         print!(rt, " {coefficient}*{node}")?;
@@ -37,7 +45,11 @@ fn print_state(rt: &LibcRuntime, tables: &Tables, node: StateNode) -> io::Result
         StateNode::No => print!(rt, "state no"),
         StateNode::And(i, j) => print!(rt, "state and {i} {j}"),
         StateNode::Not(i) => print!(rt, "state not {i}"),
-        StateNode::Step { action, moves, heres } => {
+        StateNode::Step {
+            action,
+            moves,
+            heres,
+        } => {
             print!(rt, "state step {action} moves")?;
             print_alternatives(rt, tables, moves)?;
             print!(rt, " heres")?;

@@ -1,10 +1,10 @@
 // Judging a claim on systems piled over one another.
+use crate::refused::Refused;
+use crate::refused::by_number;
 use claims::claim::Claim;
 use claims::judge::judge;
 use claims::tables::Tables;
 use claims::verdict::Verdict;
-use crate::refused::Refused;
-use crate::refused::by_number;
 use std::alloc::AllocError;
 use std::alloc::Global;
 use std::rc::Rc;
@@ -41,7 +41,13 @@ fn judge_one<S: System>(bench: &Bench, system: &S) -> Result<Answer, AllocError>
     let need = nodes as u64 * system.states() as u64;
     let mut truth = vec![in bench.heap; 0u8; need.min(LONGEST_TABLE) as usize]?;
     let mut row = vec![in bench.heap; 0u8; nodes as usize]?;
-    match judge(bench.claim, bench.tables, system, truth.as_mut_slice(), row.as_mut_slice()) {
+    match judge(
+        bench.claim,
+        bench.tables,
+        system,
+        truth.as_mut_slice(),
+        row.as_mut_slice(),
+    ) {
         Ok(verdict) => Ok(Answer::Said(verdict)),
         Err(fault) => Ok(Answer::Refused(by_number(fault.number()))),
     }
@@ -61,27 +67,51 @@ macro_rules! judge_piled {
 }
 
 // Judges on six systems; no more are piled.
-fn judge_six<S: System + Drop>(bench: &Bench, _stack: &mut Vec<Rc<AnySystem>>, system: S) -> Result<Answer, AllocError> {
+fn judge_six<S: System + Drop>(
+    bench: &Bench,
+    _stack: &mut Vec<Rc<AnySystem>>,
+    system: S,
+) -> Result<Answer, AllocError> {
     judge_one(bench, &system)
 }
 
-fn judge_five<S: System + Drop>(bench: &Bench, stack: &mut Vec<Rc<AnySystem>>, system: S) -> Result<Answer, AllocError> {
+fn judge_five<S: System + Drop>(
+    bench: &Bench,
+    stack: &mut Vec<Rc<AnySystem>>,
+    system: S,
+) -> Result<Answer, AllocError> {
     judge_piled!(bench, stack, system, judge_six)
 }
 
-fn judge_four<S: System + Drop>(bench: &Bench, stack: &mut Vec<Rc<AnySystem>>, system: S) -> Result<Answer, AllocError> {
+fn judge_four<S: System + Drop>(
+    bench: &Bench,
+    stack: &mut Vec<Rc<AnySystem>>,
+    system: S,
+) -> Result<Answer, AllocError> {
     judge_piled!(bench, stack, system, judge_five)
 }
 
-fn judge_three<S: System + Drop>(bench: &Bench, stack: &mut Vec<Rc<AnySystem>>, system: S) -> Result<Answer, AllocError> {
+fn judge_three<S: System + Drop>(
+    bench: &Bench,
+    stack: &mut Vec<Rc<AnySystem>>,
+    system: S,
+) -> Result<Answer, AllocError> {
     judge_piled!(bench, stack, system, judge_four)
 }
 
-fn judge_two<S: System + Drop>(bench: &Bench, stack: &mut Vec<Rc<AnySystem>>, system: S) -> Result<Answer, AllocError> {
+fn judge_two<S: System + Drop>(
+    bench: &Bench,
+    stack: &mut Vec<Rc<AnySystem>>,
+    system: S,
+) -> Result<Answer, AllocError> {
     judge_piled!(bench, stack, system, judge_three)
 }
 
 // Judges on the systems of the stack, the first on top.
-pub fn judge_stack(bench: &Bench, stack: &mut Vec<Rc<AnySystem>>, lowest: Rc<AnySystem>) -> Result<Answer, AllocError> {
+pub fn judge_stack(
+    bench: &Bench,
+    stack: &mut Vec<Rc<AnySystem>>,
+    lowest: Rc<AnySystem>,
+) -> Result<Answer, AllocError> {
     judge_piled!(bench, stack, lowest, judge_two)
 }

@@ -32,10 +32,24 @@ fn print_bytes(rt: &LibcRuntime, label: &str, bytes: &[u8]) -> io::Result<()> {
 }
 
 // Judges with a truth table and a row of these lengths, and prints the answer and both.
-fn try_judge(rt: &LibcRuntime, label: &str, claim: &Claim, tables: Tables, system: &Component, size: usize, len: usize) -> Result<(), AnyError> {
+fn try_judge(
+    rt: &LibcRuntime,
+    label: &str,
+    claim: &Claim,
+    tables: Tables,
+    system: &Component,
+    size: usize,
+    len: usize,
+) -> Result<(), AnyError> {
     let mut truth = vec![in rt.alloc(); BLANK; size]?;
     let mut row = vec![in rt.alloc(); BLANK; len]?;
-    match judge(claim, tables, system, truth.as_mut_slice(), row.as_mut_slice()) {
+    match judge(
+        claim,
+        tables,
+        system,
+        truth.as_mut_slice(),
+        row.as_mut_slice(),
+    ) {
         Ok(Verdict::Yes) => println!(rt, "{label}: yes")?,
         Ok(Verdict::No) => println!(rt, "{label}: no")?,
         Err(refusal) => {
@@ -67,7 +81,12 @@ impl Slots {
 
     // Reads the promise into the tables.
     fn read(&mut self) -> Result<Draft, AnyError> {
-        match read(PROMISE, self.nodes.as_mut_slice(), self.terms.as_mut_slice(), self.alternatives.as_mut_slice()) {
+        match read(
+            PROMISE,
+            self.nodes.as_mut_slice(),
+            self.terms.as_mut_slice(),
+            self.alternatives.as_mut_slice(),
+        ) {
             Ok(draft) => Ok(draft),
             Err(_) => Err("the promise is not read".into()),
         }
@@ -78,38 +97,102 @@ impl Slots {
 fn long_slots(heap: Global) -> Result<Slots, AllocError> {
     Ok(Slots {
         nodes: vec![in heap; Node::State(StateNode::Yes); 6]?,
-        terms: vec![in heap; Term { coefficient: 0, node: 0 }; 3]?,
+        terms: vec![in heap; Term {
+            coefficient: 0,
+            node: 0
+        }; 3]?,
         alternatives: vec![in heap; 9u32; 5]?,
     })
 }
 
 // One claim with truth tables and rows of several lengths.
-fn try_lengths(rt: &LibcRuntime, claim: &Claim, slots: &Slots, worker: &Component) -> Result<(), AnyError> {
+fn try_lengths(
+    rt: &LibcRuntime,
+    claim: &Claim,
+    slots: &Slots,
+    worker: &Component,
+) -> Result<(), AnyError> {
     try_judge(rt, "just long enough", claim, slots.tables(), worker, 8, 4)?;
-    try_judge(rt, "longer than needed", claim, slots.tables(), worker, 10, 6)?;
-    try_judge(rt, "truth table a byte short", claim, slots.tables(), worker, 7, 4)?;
+    try_judge(
+        rt,
+        "longer than needed",
+        claim,
+        slots.tables(),
+        worker,
+        10,
+        6,
+    )?;
+    try_judge(
+        rt,
+        "truth table a byte short",
+        claim,
+        slots.tables(),
+        worker,
+        7,
+        4,
+    )?;
     try_judge(rt, "row a byte short", claim, slots.tables(), worker, 8, 3)
 }
 
 // One claim on tables that were changed behind its back: a node that is its own part, then fewer nodes than it has.
-fn try_changed(rt: &LibcRuntime, claim: &Claim, slots: &mut Slots, worker: &Component) -> Result<(), AnyError> {
+fn try_changed(
+    rt: &LibcRuntime,
+    claim: &Claim,
+    slots: &mut Slots,
+    worker: &Component,
+) -> Result<(), AnyError> {
     if let Some(node) = slots.nodes.get_mut(1) {
         *node = Node::State(StateNode::Not(1));
     }
-    try_judge(rt, "a node that is its own part", claim, slots.tables(), worker, 8, 4)?;
+    try_judge(
+        rt,
+        "a node that is its own part",
+        claim,
+        slots.tables(),
+        worker,
+        8,
+        4,
+    )?;
     slots.nodes.truncate(3);
-    try_judge(rt, "node table shorter than the fill", claim, slots.tables(), worker, 8, 4)
+    try_judge(
+        rt,
+        "node table shorter than the fill",
+        claim,
+        slots.tables(),
+        worker,
+        8,
+        4,
+    )
 }
 
 fn worker(rt: &LibcRuntime) -> Result<Component, AnyError> {
     let moves = [
-        MoveRecord { state: 0, action: 0, first: 0, count: 2 },
-        MoveRecord { state: 1, action: 1, first: 2, count: 1 },
+        MoveRecord {
+            state: 0,
+            action: 0,
+            first: 0,
+            count: 2,
+        },
+        MoveRecord {
+            state: 1,
+            action: 1,
+            first: 2,
+            count: 1,
+        },
     ];
     let targets = [
-        Target { state: 1, weight: 750 },
-        Target { state: 0, weight: 250 },
-        Target { state: 0, weight: 1000 },
+        Target {
+            state: 1,
+            weight: 750,
+        },
+        Target {
+            state: 0,
+            weight: 250,
+        },
+        Target {
+            state: 0,
+            weight: 1000,
+        },
     ];
     match Component::mount(rt.alloc(), 2, &moves, &targets) {
         Ok(component) => Ok(component),
@@ -128,7 +211,10 @@ fn try_open(rt: &LibcRuntime, draft: Draft, tables: Tables) -> Result<Option<Cla
         Err(back) => {
             let number = back.1.number();
             let root = back.0.root();
-            println!(rt, "open: refused {number}, the draft with root {root} comes back")?;
+            println!(
+                rt,
+                "open: refused {number}, the draft with root {root} comes back"
+            )?;
             Ok(None)
         }
     }

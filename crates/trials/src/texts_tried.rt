@@ -11,7 +11,11 @@ use std::error::AnyError;
 use std::io;
 
 // What fills the tables before a reading, to see what it leaves.
-const BLANK_TERM: Term = Term { coefficient: 77, node: 77 };
+const BLANK_TERM: Term = Term {
+    coefficient: 77,
+    node: 77,
+};
+
 const BLANK_ALTERNATIVE: u32 = 77;
 
 // Three tables of given lengths.
@@ -22,7 +26,12 @@ struct Slots {
     alternatives: Vec<u32>,
 }
 
-fn fresh_slots(heap: Global, nodes: usize, terms: usize, alternatives: usize) -> Result<Slots, AllocError> {
+fn fresh_slots(
+    heap: Global,
+    nodes: usize,
+    terms: usize,
+    alternatives: usize,
+) -> Result<Slots, AllocError> {
     Ok(Slots {
         nodes: vec![in heap; Node::State(StateNode::Not(77)); nodes]?,
         terms: vec![in heap; BLANK_TERM; terms]?,
@@ -78,14 +87,22 @@ fn print_fault(rt: &LibcRuntime, fault: &ReadFault) -> io::Result<()> {
 // Reads a text into the tables, and prints the answer and how many entries are as they were.
 fn try_into(rt: &LibcRuntime, label: &str, text: &[u8], tables: &mut Slots) -> io::Result<()> {
     print!(rt, "{label}: ")?;
-    match read(text, tables.nodes.as_mut_slice(), tables.terms.as_mut_slice(), tables.alternatives.as_mut_slice()) {
+    match read(
+        text,
+        tables.nodes.as_mut_slice(),
+        tables.terms.as_mut_slice(),
+        tables.alternatives.as_mut_slice(),
+    ) {
         Ok(draft) => {
             let fills = draft.fills();
             let nodes = fills.nodes;
             let terms = fills.terms;
             let alternatives = fills.alternatives;
             let root = draft.root();
-            print!(rt, "{nodes} nodes, {terms} terms, {alternatives} alternatives, root {root}")?;
+            print!(
+                rt,
+                "{nodes} nodes, {terms} terms, {alternatives} alternatives, root {root}"
+            )?;
         }
         Err(fault) => print_fault(rt, &fault)?,
     }
@@ -99,7 +116,13 @@ fn try_text(rt: &LibcRuntime, label: &str, text: &[u8]) -> Result<(), AnyError> 
 }
 
 // So many copies of a text, a middle, and so many copies of another.
-fn nested(heap: Global, open: &str, count: usize, middle: &str, close: &str) -> Result<String, AllocError> {
+fn nested(
+    heap: Global,
+    open: &str,
+    count: usize,
+    middle: &str,
+    close: &str,
+) -> Result<String, AllocError> {
     let mut text = String::new(heap);
     for _ in 0..count {
         text.push_str(open)?;
@@ -133,9 +156,22 @@ fn try_digits(rt: &LibcRuntime, label: &str, count: usize) -> Result<(), AnyErro
 }
 
 // One text into tables of several lengths.
-fn try_room(rt: &LibcRuntime, label: &str, nodes: usize, terms: usize, alternatives: usize) -> Result<(), AnyError> {
+fn try_room(
+    rt: &LibcRuntime,
+    label: &str,
+    nodes: usize,
+    terms: usize,
+    alternatives: usize,
+) -> Result<(), AnyError> {
     let mut tables = fresh_slots(rt.alloc(), nodes, terms, alternatives)?;
-    Ok(try_into(rt, label, b"(dia 0 (>= (* 1000 (prob (dia 1 true))) 937))", &mut tables)?)
+    Ok(
+        try_into(
+            rt,
+            label,
+            b"(dia 0 (>= (* 1000 (prob (dia 1 true))) 937))",
+            &mut tables,
+        )?,
+    )
 }
 
 fn try_words(rt: &LibcRuntime) -> Result<(), AnyError> {
@@ -155,12 +191,20 @@ fn try_words(rt: &LibcRuntime) -> Result<(), AnyError> {
 
 fn try_grammar(rt: &LibcRuntime) -> Result<(), AnyError> {
     try_text(rt, "a distribution term for a state term", b"(>= 0 0)")?;
-    try_text(rt, "a state term for a distribution term", b"(here (here true))")?;
+    try_text(
+        rt,
+        "a state term for a distribution term",
+        b"(here (here true))",
+    )?;
     try_text(rt, "a part too few", b"(not)")?;
     try_text(rt, "a part too many", b"(not true true)")?;
     try_text(rt, "it ends early", b"(and true")?;
     try_text(rt, "a numeral for a sum", b"(here (>= 1 0))")?;
-    try_text(rt, "one term behind a plus", b"(here (>= (+ (* 1 (prob true))) 0))")?;
+    try_text(
+        rt,
+        "one term behind a plus",
+        b"(here (>= (+ (* 1 (prob true))) 0))",
+    )?;
     try_text(rt, "no term behind a plus", b"(here (>= (+) 0))")
 }
 
@@ -168,11 +212,27 @@ fn try_ranges(rt: &LibcRuntime) -> Result<(), AnyError> {
     try_text(rt, "action 31", b"(dia 31 true)")?;
     try_text(rt, "action 32", b"(dia 32 true)")?;
     try_text(rt, "coefficient 0", b"(here (>= (* 0 (prob true)) 0))")?;
-    try_text(rt, "coefficient 1000", b"(here (>= (* 1000 (prob true)) 1000))")?;
-    try_text(rt, "coefficient 1001", b"(here (>= (* 1001 (prob true)) 0))")?;
+    try_text(
+        rt,
+        "coefficient 1000",
+        b"(here (>= (* 1000 (prob true)) 1000))",
+    )?;
+    try_text(
+        rt,
+        "coefficient 1001",
+        b"(here (>= (* 1001 (prob true)) 0))",
+    )?;
     try_text(rt, "threshold 1001", b"(here (>= 0 1001))")?;
-    try_text(rt, "coefficients 1000", b"(here (>= (+ (* 999 (prob true)) (* 1 (prob true))) 0))")?;
-    try_text(rt, "coefficients 1001", b"(here (>= (+ (* 999 (prob true)) (* 2 (prob true))) 0))")?;
+    try_text(
+        rt,
+        "coefficients 1000",
+        b"(here (>= (+ (* 999 (prob true)) (* 1 (prob true))) 0))",
+    )?;
+    try_text(
+        rt,
+        "coefficients 1001",
+        b"(here (>= (+ (* 999 (prob true)) (* 2 (prob true))) 0))",
+    )?;
     try_digits(rt, "5000 digits", 5000)
 }
 
