@@ -1,4 +1,6 @@
 // Judging a claim on systems piled over one another.
+ghost use Rattle.std.specs.Vec.{made};
+ghost use Rattle.qcheck.specs.Answers.{Told};
 use crate::refused::Refused;
 use crate::refused::by_number;
 use claims::claim::Claim;
@@ -36,7 +38,9 @@ pub enum Answer {
 }
 
 // Judges on one system, with tables of its own.
-fn judge_one<S: System>(bench: &Bench, system: &S) -> Result<Answer, AllocError> {
+fn judge_one<S: System>(bench: &Bench, system: &S) -> Result<Answer, AllocError>
+    ensures { λ r. ⌜ made r (λ a. Told (S·System .meaning (now (system .entry))) (now (now (bench .entry) .claim)) (now (bench .entry) .tables) a) ⌝ }
+{
     let nodes = bench.claim.fills().nodes;
     let need = nodes as u64 * system.states() as u64;
     let mut truth = vec![in bench.heap; 0u8; need.min(LONGEST_TABLE) as usize]?;
