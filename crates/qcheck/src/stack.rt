@@ -1,6 +1,9 @@
 // Judging a claim on systems piled over one another.
 ghost use Rattle.std.specs.Vec.{made};
-ghost use Rattle.qcheck.specs.Answers.{Told};
+ghost use Rattle.std.specs.Of.Vec.{vec-items};
+ghost use Rattle.std.specs.Of.Rc.{rc-value};
+ghost use Rattle.systems.specs.Any.{any-meaning};
+ghost use Rattle.qcheck.specs.Answers.{Told, ToldOver};
 use crate::refused::Refused;
 use crate::refused::by_number;
 use claims::claim::Claim;
@@ -70,20 +73,27 @@ macro_rules! judge_piled {
     };
 }
 
-// Judges on six systems; no more are piled.
+// Judges on six systems; a pile of more is refused.
 fn judge_six<S: System + Drop>(
     bench: &Bench,
-    _stack: &mut Vec<Rc<AnySystem>>,
+    stack: &mut Vec<Rc<AnySystem>>,
     system: S,
-) -> Result<Answer, AllocError> {
-    judge_one(bench, &system)
+) -> Result<Answer, AllocError>
+    ensures { λ r. ⌜ made r (λ a. ToldOver (vec-items (now (stack .entry))) (S·System .meaning system) (now (now (bench .entry) .claim)) (now (bench .entry) .tables) a) ⌝ }
+{
+    match stack.pop() {
+        None => judge_one(bench, &system),
+        Some(_) => Ok(Answer::Refused(by_number(9))),
+    }
 }
 
 fn judge_five<S: System + Drop>(
     bench: &Bench,
     stack: &mut Vec<Rc<AnySystem>>,
     system: S,
-) -> Result<Answer, AllocError> {
+) -> Result<Answer, AllocError>
+    ensures { λ r. ⌜ made r (λ a. ToldOver (vec-items (now (stack .entry))) (S·System .meaning system) (now (now (bench .entry) .claim)) (now (bench .entry) .tables) a) ⌝ }
+{
     judge_piled!(bench, stack, system, judge_six)
 }
 
@@ -91,7 +101,9 @@ fn judge_four<S: System + Drop>(
     bench: &Bench,
     stack: &mut Vec<Rc<AnySystem>>,
     system: S,
-) -> Result<Answer, AllocError> {
+) -> Result<Answer, AllocError>
+    ensures { λ r. ⌜ made r (λ a. ToldOver (vec-items (now (stack .entry))) (S·System .meaning system) (now (now (bench .entry) .claim)) (now (bench .entry) .tables) a) ⌝ }
+{
     judge_piled!(bench, stack, system, judge_five)
 }
 
@@ -99,7 +111,9 @@ fn judge_three<S: System + Drop>(
     bench: &Bench,
     stack: &mut Vec<Rc<AnySystem>>,
     system: S,
-) -> Result<Answer, AllocError> {
+) -> Result<Answer, AllocError>
+    ensures { λ r. ⌜ made r (λ a. ToldOver (vec-items (now (stack .entry))) (S·System .meaning system) (now (now (bench .entry) .claim)) (now (bench .entry) .tables) a) ⌝ }
+{
     judge_piled!(bench, stack, system, judge_four)
 }
 
@@ -107,7 +121,9 @@ fn judge_two<S: System + Drop>(
     bench: &Bench,
     stack: &mut Vec<Rc<AnySystem>>,
     system: S,
-) -> Result<Answer, AllocError> {
+) -> Result<Answer, AllocError>
+    ensures { λ r. ⌜ made r (λ a. ToldOver (vec-items (now (stack .entry))) (S·System .meaning system) (now (now (bench .entry) .claim)) (now (bench .entry) .tables) a) ⌝ }
+{
     judge_piled!(bench, stack, system, judge_three)
 }
 
@@ -116,6 +132,8 @@ pub fn judge_stack(
     bench: &Bench,
     stack: &mut Vec<Rc<AnySystem>>,
     lowest: Rc<AnySystem>,
-) -> Result<Answer, AllocError> {
+) -> Result<Answer, AllocError>
+    ensures { λ r. ⌜ made r (λ a. ToldOver (vec-items (now (stack .entry))) (any-meaning (rc-value lowest)) (now (now (bench .entry) .claim)) (now (bench .entry) .tables) a) ⌝ }
+{
     judge_piled!(bench, stack, lowest, judge_two)
 }
