@@ -1,7 +1,7 @@
 -- A stack is piled from its end.
 use mathlib.Core.Path.{_≡_, refl, sym, ap, subst, _∙_}
 use mathlib.Core.Bool.{Bool}
-use mathlib.Core.List.{List, [], _∷_, _++_, map, map-append}
+use mathlib.Core.List.{List, [], _∷_, _++_, map-append}
 use Prim.Native.Nat.{ℕ}
 use Rattle.std.specs.Vec.{made}
 use Rattle.std.specs.Of.Rc.{rc-value}
