@@ -1,4 +1,8 @@
 // How a refusal is printed.
+ghost use mathlib.Core.Path.{_≡_};
+ghost use Rattle.std.specs.declared.option.Option.the-variants.{Some, None};
+ghost use Rattle.formulas.specs.Faults.{number as readNumber, place as readPlace, layer as readLayer};
+ghost use Rattle.qcheck.specs.Refusals.{by-mount};
 use claims::fault::Refusal;
 use formulas::fault::Layer;
 use formulas::fault::ReadFault;
@@ -15,7 +19,9 @@ pub struct Refused {
     layer: Option<Layer>,
 }
 
-pub fn by_number(number: u8) -> Refused {
+pub fn by_number(number: u8) -> Refused
+    ensures { λ r. ⌜ r ≡ record { number = number; place = None; layer = None } ⌝ }
+{
     Refused {
         number,
         place: None,
@@ -23,7 +29,9 @@ pub fn by_number(number: u8) -> Refused {
     }
 }
 
-pub fn by_read(fault: &ReadFault) -> Refused {
+pub fn by_read(fault: &ReadFault) -> Refused
+    ensures { λ r. ⌜ r ≡ record { number = readNumber (now (fault .entry)); place = readPlace (now (fault .entry)); layer = Some (readLayer (now (fault .entry))) } ⌝ }
+{
     Refused {
         number: fault.number(),
         place: fault.place(),
@@ -32,7 +40,9 @@ pub fn by_read(fault: &ReadFault) -> Refused {
 }
 
 // A component is refused for its records, or there was no memory for it.
-pub fn by_mount(fault: &MountFault) -> Option<Refused> {
+pub fn by_mount(fault: &MountFault) -> Option<Refused>
+    ensures { λ r. ⌜ r ≡ by-mount (now (fault .entry)) ⌝ }
+{
     let number = fault.number()?;
     let place = fault.place()?;
     Some(Refused {

@@ -1,4 +1,9 @@
 // A job as it runs: the systems by name, and the claim with its tables.
+ghost use mathlib.Core.Path.{_≡_};
+ghost use Rattle.std.specs.Results.{isOk};
+ghost use Rattle.std.specs.declared.result.Result.the-variants.{Ok, Err};
+ghost use Rattle.claims.specs.declared.fault.Refusal.the-variants.{NoFormula};
+ghost use Rattle.claims.specs.Claims.{stands-in, Opened};
 use crate::refused::by_mount;
 use crate::refused::by_number;
 use crate::refused::by_read;
@@ -360,7 +365,10 @@ impl Session {
 }
 
 // Opens a draft; a refused one is let go.
-fn open_on(draft: Draft, tables: Tables, shared: ActionSet) -> Result<Claim, Refusal> {
+fn open_on(draft: Draft, tables: Tables, shared: ActionSet) -> Result<Claim, Refusal>
+    ensures accepted { λ r. ⌜ isOk r ≡ stands-in (draft .fills) (draft .root) 1 (tables .entry) ⌝ }
+    ensures outcome { λ r. ⌜ elim r [ Ok c ↦ Opened draft shared c | Err e ↦ e ≡ NoFormula ] ⌝ }
+{
     match open(draft, tables, shared) {
         Ok(claim) => Ok(claim),
         Err(back) => Err(back.1),

@@ -1,4 +1,9 @@
 // Judging a claim on systems piled over one another.
+ghost use Rattle.std.specs.Vec.{made};
+ghost use Rattle.std.specs.Of.Vec.{vec-items};
+ghost use Rattle.std.specs.Of.Rc.{rc-value};
+ghost use Rattle.systems.specs.Any.{any-meaning};
+ghost use Rattle.qcheck.specs.Answers.{Told, ToldOver};
 use crate::refused::Refused;
 use crate::refused::by_number;
 use claims::claim::Claim;
@@ -36,7 +41,9 @@ pub enum Answer {
 }
 
 // Judges on one system, with tables of its own.
-fn judge_one<S: System>(bench: &Bench, system: &S) -> Result<Answer, AllocError> {
+fn judge_one<S: System>(bench: &Bench, system: &S) -> Result<Answer, AllocError>
+    ensures { λ r. ⌜ made r (λ a. Told (S·System .meaning (now (system .entry))) (now (now (bench .entry) .claim)) (now (bench .entry) .tables) a) ⌝ }
+{
     let nodes = bench.claim.fills().nodes;
     let need = nodes as u64 * system.states() as u64;
     let mut truth = vec![in bench.heap; 0u8; need.min(LONGEST_TABLE) as usize]?;
@@ -66,20 +73,27 @@ macro_rules! judge_piled {
     };
 }
 
-// Judges on six systems; no more are piled.
+// Judges on six systems; a pile of more is refused.
 fn judge_six<S: System + Drop>(
     bench: &Bench,
-    _stack: &mut Vec<Rc<AnySystem>>,
+    stack: &mut Vec<Rc<AnySystem>>,
     system: S,
-) -> Result<Answer, AllocError> {
-    judge_one(bench, &system)
+) -> Result<Answer, AllocError>
+    ensures { λ r. ⌜ made r (λ a. ToldOver (vec-items (now (stack .entry))) (S·System .meaning system) (now (now (bench .entry) .claim)) (now (bench .entry) .tables) a) ⌝ }
+{
+    match stack.pop() {
+        None => judge_one(bench, &system),
+        Some(_) => Ok(Answer::Refused(by_number(9))),
+    }
 }
 
 fn judge_five<S: System + Drop>(
     bench: &Bench,
     stack: &mut Vec<Rc<AnySystem>>,
     system: S,
-) -> Result<Answer, AllocError> {
+) -> Result<Answer, AllocError>
+    ensures { λ r. ⌜ made r (λ a. ToldOver (vec-items (now (stack .entry))) (S·System .meaning system) (now (now (bench .entry) .claim)) (now (bench .entry) .tables) a) ⌝ }
+{
     judge_piled!(bench, stack, system, judge_six)
 }
 
@@ -87,7 +101,9 @@ fn judge_four<S: System + Drop>(
     bench: &Bench,
     stack: &mut Vec<Rc<AnySystem>>,
     system: S,
-) -> Result<Answer, AllocError> {
+) -> Result<Answer, AllocError>
+    ensures { λ r. ⌜ made r (λ a. ToldOver (vec-items (now (stack .entry))) (S·System .meaning system) (now (now (bench .entry) .claim)) (now (bench .entry) .tables) a) ⌝ }
+{
     judge_piled!(bench, stack, system, judge_five)
 }
 
@@ -95,7 +111,9 @@ fn judge_three<S: System + Drop>(
     bench: &Bench,
     stack: &mut Vec<Rc<AnySystem>>,
     system: S,
-) -> Result<Answer, AllocError> {
+) -> Result<Answer, AllocError>
+    ensures { λ r. ⌜ made r (λ a. ToldOver (vec-items (now (stack .entry))) (S·System .meaning system) (now (now (bench .entry) .claim)) (now (bench .entry) .tables) a) ⌝ }
+{
     judge_piled!(bench, stack, system, judge_four)
 }
 
@@ -103,7 +121,9 @@ fn judge_two<S: System + Drop>(
     bench: &Bench,
     stack: &mut Vec<Rc<AnySystem>>,
     system: S,
-) -> Result<Answer, AllocError> {
+) -> Result<Answer, AllocError>
+    ensures { λ r. ⌜ made r (λ a. ToldOver (vec-items (now (stack .entry))) (S·System .meaning system) (now (now (bench .entry) .claim)) (now (bench .entry) .tables) a) ⌝ }
+{
     judge_piled!(bench, stack, system, judge_three)
 }
 
@@ -112,6 +132,8 @@ pub fn judge_stack(
     bench: &Bench,
     stack: &mut Vec<Rc<AnySystem>>,
     lowest: Rc<AnySystem>,
-) -> Result<Answer, AllocError> {
+) -> Result<Answer, AllocError>
+    ensures { λ r. ⌜ made r (λ a. ToldOver (vec-items (now (stack .entry))) (any-meaning (rc-value lowest)) (now (now (bench .entry) .claim)) (now (bench .entry) .tables) a) ⌝ }
+{
     judge_piled!(bench, stack, lowest, judge_two)
 }

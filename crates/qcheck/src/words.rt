@@ -1,4 +1,8 @@
 // The words and numbers of a job's lines.
+ghost use mathlib.Core.Path.{_≡_};
+ghost use Rattle.std.specs.Vec.{made};
+ghost use Rattle.std.specs.declared.option.Option.the-variants.{Some};
+ghost use Rattle.formulas.specs.Tokens.{numeralOf};
 use formulas::tokens::numeral;
 use std::alloc::AllocError;
 use std::alloc::Global;
@@ -49,7 +53,9 @@ pub fn misread(heap: Global, what: &str, word: &str) -> AnyError {
 }
 
 // A numeral; one above 2^30 stands for any number beyond every limit.
-pub fn number(heap: Global, word: &str) -> Result<u32, AnyError> {
+pub fn number(heap: Global, word: &str) -> Result<u32, AnyError>
+    ensures { λ r. ⌜ made r (λ n. numeralOf (now (word .entry)) ≡ Some n) ⌝ }
+{
     match numeral(word.as_bytes()) {
         Some(n) => Ok(n),
         None => Err(misread(heap, "not a number:", word)),
