@@ -1,0 +1,4 @@
+pub mod Quotient
+pub mod Stack
+pub mod WellFormed
+pub mod Theorems

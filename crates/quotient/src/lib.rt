@@ -1,0 +1,1 @@
+// Quotients: removing a system from the top of a pile.
