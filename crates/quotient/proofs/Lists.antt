@@ -169,6 +169,14 @@ module _ {X Y : Type 0} (f : X → List Y) (w : X → ℕ) (same : (x : X) → l
           let r = rest k in
           record { part = suc (r .part); inner = r .inner; within = omega (arith, r .within); short = r .short; sum-is = omega (arith, r .sum-is, sumBy-cons w x (take (r .part) xs)) }
 
+pub all-counting : (P : ℕ → Type 0) (b n : ℕ) → ((j : ℕ) → j < n → P (b + j)) → All P (counting b n)
+all-counting P b zero h = tt
+all-counting P b (suc n) h = (subst P (add-zero b) (h 0 (omega arith)), all-counting P (b + 1) n (λ j l. subst P (omega arith) (h (suc j) (omega arith))))
+
+pub all-joined : {X Y : Type 0} (P : Y → Type 0) (f : X → List Y) → ((x : X) → All P (f x)) → (xs : List X) → All P (joined f xs)
+all-joined P f h [] = tt
+all-joined P f h (x ∷ xs) = all-append P (f x) (joined f xs) (h x) (all-joined P f h xs)
+
 -- the lists of the numbers below n, joined
 module _ {Y : Type 0} (f : ℕ → List Y) where
   take-counting : (n i : ℕ) → i ≤ n → take i (counting 0 n) ≡ counting 0 i
