@@ -1,3 +1,5 @@
 pub mod Lists
 pub mod Course
 pub mod Places
+pub mod Piles
+pub mod Quotients

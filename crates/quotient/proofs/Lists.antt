@@ -26,7 +26,7 @@ module _ (P : ℕ → Type 0) (next : (i : ℕ) → ((j : ℕ) → j < i → P j
   pub each : (i : ℕ) → P i
   each i = below (suc i) i (omega arith)
 
-or-assoc : (a b c : Bool) → (a || b) || c ≡ a || (b || c)
+pub or-assoc : (a b c : Bool) → (a || b) || c ≡ a || (b || c)
 or-assoc true b c = refl
 or-assoc false b c = refl
 
@@ -87,6 +87,9 @@ module _ {X : Type 0} where
   pub sumBy-on : {P : X → Type 0} (f g : X → ℕ) (xs : List X) → All P xs → ((x : X) → P x → f x ≡ g x) → sumBy f xs ≡ sumBy g xs
   sumBy-on f g [] h e = refl
   sumBy-on f g (x ∷ xs) h e = sumBy-cons f x xs ∙ ap₂ _+_ (e x (h .0)) (sumBy-on f g xs (h .1) e) ∙ sym (sumBy-cons g x xs)
+
+  pub sumBy-eq : {f g : X → ℕ} (xs : List X) → ((x : X) → f x ≡ g x) → sumBy f xs ≡ sumBy g xs
+  sumBy-eq xs e = ap (λ (h : X → ℕ). sumBy h xs) (fun-ext e)
 
   pub sumBy-mul : (c : ℕ) (f : X → ℕ) (xs : List X) → sumBy (λ x. c * f x) xs ≡ c * sumBy f xs
   sumBy-mul c f [] = sym (mul-zero c)

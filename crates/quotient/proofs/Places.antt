@@ -77,7 +77,7 @@ module _ (A : ℕ → Bool) (R : Meaning) (ls : List Line) where
   new-sort (step a ms hs) p = elim (A a) as (λ b. sort (new-step b R ls a ms hs p) ≡ state) [ true ↦ refl | false ↦ refl ]
   new-sort (sum t ks) p = refl
 
-  pub quotient-length : length (quotient-lines A R ls) ≡ place R ls (length ls) 0
+  quotient-length : length (quotient-lines A R ls) ≡ place R ls (length ls) 0
   unfolding place
   quotient-length = omega (arith, length-joined (new-lines A R ls) wide new-length ls, ap (sumBy wide) (take-all (length ls) ls (omega arith)))
 
@@ -97,6 +97,11 @@ module _ (A : ℕ → Bool) (R : Meaning) (ls : List Line) where
         before = omega (arith, sumBy-room wide ls j i (constant state true) j<i h);
         sorted = ap sort (line-at-place j q (omega arith) k) ∙ new-sort (line-at ls j) q ∙ part .sorted;
       }
+
+  -- so lines give lines of the quotient
+  pub place-is : (σ : Sort) (j q : ℕ) → Part ls (length ls) σ j → q < width R σ → Part (quotient-lines A R ls) (length (quotient-lines A R ls)) σ (place R ls j q)
+  place-is σ j q part l =
+      subst (λ (n : ℕ). Part (quotient-lines A R ls) n σ (place R ls j q)) (sym quotient-length) (part-place (length ls) 0 (omega arith) σ j q part l)
 
   module _ (shaped : Shaped R) (i p : ℕ) (h : i ≤ length ls) where
     New : Sort → ℕ → Type 0
@@ -140,6 +145,5 @@ module _ (A : ℕ → Bool) (R : Meaning) (ls : List Line) where
 pub quotient-formed : (A : ℕ → Bool) (R : Meaning) (F : Formula) → Shaped R → Well-formed F → Well-formed (quotient A R F)
 quotient-formed A R F shaped formed = record {
   lines = quotient-fits A R (F .lines) shaped (formed .lines);
-  root = subst (λ (n : ℕ). Part (quotient-lines A R (F .lines)) n state (place R (F .lines) (F .root) 0)) (sym (quotient-length A R (F .lines)))
-      (part-place A R (F .lines) (length (F .lines)) 0 (omega arith) state (F .root) 0 (formed .root) (shaped .some));
+  root = place-is A R (F .lines) state (F .root) 0 (formed .root) (shaped .some);
 }
