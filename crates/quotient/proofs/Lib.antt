@@ -3,3 +3,4 @@ pub mod Course
 pub mod Places
 pub mod Piles
 pub mod Quotients
+pub mod Rules

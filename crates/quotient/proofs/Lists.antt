@@ -4,12 +4,12 @@ use mathlib.Core.List.{List, [], _∷_, _++_, map}
 use mathlib.Core.Logic.{_⊎_, inl, inr}
 use mathlib.Core.Bool.{Bool, true, false, _||_}
 use Prim.Native.Nat.{ℕ, zero, suc, _+_, _*_, _-_, _≤_, _<_}
-use native.Mathlib.Nat.{zero-add, add-zero, mul-zero, mul-add, not-suc-le-zero, le-of-suc-le-suc}
+use native.Mathlib.Nat.{zero-add, add-zero, mul-zero, zero-mul, suc-mul, mul-add, not-suc-le-zero, le-of-suc-le-suc}
 use native.Mathlib.Omega.{arith}
 use lib.ListN.{length, getD, take}
 use Rattle.std.specs.Iters.{counting}
 use Rattle.std.specs.shelf.Lists.{All, joined, sumBy}
-use Rattle.std.proofs.shelf.Lists.{getD-append-left, getD-append-add, length-append, take-take, map-id}
+use Rattle.std.proofs.shelf.Lists.{getD-append-left, getD-append-add, length-append, length-map, take-take, map-id}
 use Rattle.std.proofs.shelf.Elements.{all-append, all-map, all-weaker}
 use Rattle.std.proofs.shelf.Sums.{sumBy-cons, sumBy-append, sumBy-more, sumBy-take-le}
 use Rattle.std.proofs.shelf.Tests.{cases-lt}
@@ -133,6 +133,11 @@ module _ {X Y Z : Type 0} (f : X → Y → Z) where
   sumBy-cross h [] ys = refl
   sumBy-cross h (x ∷ xs) ys =
       sumBy-append h (map (f x) ys) (cross f xs ys) ∙ ap₂ _+_ (sumBy-map h (f x) ys) (sumBy-cross h xs ys) ∙ sym (sumBy-cons (λ z. sumBy (λ y. h (f z y)) ys) x xs)
+
+  pub length-cross : (xs : List X) (ys : List Y) → length (cross f xs ys) ≡ length xs * length ys
+  unfolding cross
+  length-cross [] ys = sym (zero-mul (length ys))
+  length-cross (x ∷ xs) ys = length-append (map (f x) ys) (cross f xs ys) ∙ omega (arith, length-map ys (f x), length-cross xs ys, suc-mul (length xs) (length ys))
 
   pub all-cross : {P : X → Type 0} {Q : Y → Type 0} (R : Z → Type 0) (xs : List X) (ys : List Y) → All P xs → All Q ys → ((x : X) (y : Y) → P x → Q y → R (f x y)) → All R (cross f xs ys)
   unfolding cross
