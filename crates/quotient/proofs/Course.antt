@@ -31,8 +31,7 @@ truth-same S ls i T U e (step a ms hs) h =
     (any-on hs (h .2) (λ d p. ap (λ (x : Truth). x .of (point S s)) (e d (p .before))))))
 truth-same S ls i T U e (sum t ks) h =
     ap (λ (f : Move → Bool). record { at = λ s. false; of = f }) (fun-ext (λ mv.
-    ap (leb (t * S .mass)) (sumBy-on (λ k. k .coefficient * weigh (look T (k .node) .at) mv) (λ k. k .coefficient * weigh (look U (k .node) .at) mv) ks h
-    (λ k p. ap (λ (x : Truth). k .coefficient * weigh (x .at) mv) (e (k .node) (p .before))))))
+    ap (leb (t * S .mass)) (sumBy-on ks h (λ k p. ap (λ (x : Truth). k .coefficient * weigh (x .at) mv) (e (k .node) (p .before))))))
 
 folded-append : {X Y : Type 0} (f : Y → X → Y) (y : Y) (xs zs : List X) → folded f y (xs ++ zs) ≡ folded f (folded f y xs) zs
 folded-append f y [] zs = refl

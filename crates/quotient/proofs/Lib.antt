@@ -4,3 +4,5 @@ pub mod Places
 pub mod Piles
 pub mod Quotients
 pub mod Rules
+pub mod Same
+pub mod Order

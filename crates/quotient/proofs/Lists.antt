@@ -84,9 +84,9 @@ module _ {X Y : Type 0} where
 
 -- sums
 module _ {X : Type 0} where
-  pub sumBy-on : {P : X → Type 0} (f g : X → ℕ) (xs : List X) → All P xs → ((x : X) → P x → f x ≡ g x) → sumBy f xs ≡ sumBy g xs
-  sumBy-on f g [] h e = refl
-  sumBy-on f g (x ∷ xs) h e = sumBy-cons f x xs ∙ ap₂ _+_ (e x (h .0)) (sumBy-on f g xs (h .1) e) ∙ sym (sumBy-cons g x xs)
+  pub sumBy-on : {P : X → Type 0} {f g : X → ℕ} (xs : List X) → All P xs → ((x : X) → P x → f x ≡ g x) → sumBy f xs ≡ sumBy g xs
+  sumBy-on [] h e = refl
+  sumBy-on {P} {f} {g} (x ∷ xs) h e = sumBy-cons f x xs ∙ ap₂ _+_ (e x (h .0)) (sumBy-on xs (h .1) e) ∙ sym (sumBy-cons g x xs)
 
   pub sumBy-eq : {f g : X → ℕ} (xs : List X) → ((x : X) → f x ≡ g x) → sumBy f xs ≡ sumBy g xs
   sumBy-eq xs e = ap (λ (h : X → ℕ). sumBy h xs) (fun-ext e)

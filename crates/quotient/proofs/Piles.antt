@@ -23,7 +23,7 @@ pile-at A U L u v a hu hv =
     ∙ ap₂ (λ (x y : ℕ). moves-over A U L x y a) (div-mul-add u (L .states) v hv) (mod-mul-add u (L .states) v hv)
 
 pub weigh-on : (n : ℕ) (P Q : ℕ → Bool) (mv : Move) → Into n mv → ((s : ℕ) → s < n → P s ≡ Q s) → weigh P mv ≡ weigh Q mv
-weigh-on n P Q mv h e = sumBy-on (λ t. cond (P (t .state)) (t .weight) 0) (λ t. cond (Q (t .state)) (t .weight) 0) mv h (λ t l. ap (λ b. cond b (t .weight) 0) (e (t .state) l))
+weigh-on n P Q mv h e = sumBy-on mv h (λ t l. ap (λ b. cond b (t .weight) 0) (e (t .state) l))
 
 cond-mul : (b : Bool) (w x : ℕ) → cond b (w * x) 0 ≡ w * cond b x 0
 cond-mul true w x = refl

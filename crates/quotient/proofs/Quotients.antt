@@ -88,8 +88,8 @@ module _ (A : ℕ → Bool) (R S : Meaning) where
         → total (at-node T′) (cross (new-term R ls) ks (row R p)) mv ≡ total (at-node T) ks (pair (S .states) (row R p) mv)
     sum-match p mv ks hp hv h =
         sumBy-cross (new-term R ls) (λ k. k .coefficient * weigh (at-node T′ (k .node)) mv) ks (row R p)
-        ∙ sumBy-on (λ k. sumBy (λ t. k .coefficient * t .weight * weigh (at-node T′ (place R ls (k .node) (t .state))) mv) (row R p)) (λ k. k .coefficient * weigh (at-node T (k .node)) (pair (S .states) (row R p) mv)) ks h (λ k part.
-        sumBy-on (λ t. k .coefficient * t .weight * weigh (at-node T′ (place R ls (k .node) (t .state))) mv) (λ t. k .coefficient * (t .weight * weigh (λ v. at-node T (k .node) (t .state * S .states + v)) mv)) (row R p)
+        ∙ sumBy-on ks h (λ k part.
+        sumBy-on (row R p)
         (rows-all R (Into (R .states)) (λ q l. (l, tt)) (hR .closed) p hp)
         (λ t l.
         mul-assoc (k .coefficient) (t .weight) (weigh (at-node T′ (place R ls (k .node) (t .state))) mv)
