@@ -6,3 +6,4 @@ pub mod Quotients
 pub mod Rules
 pub mod Same
 pub mod Order
+pub mod Bounds

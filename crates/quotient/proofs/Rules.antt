@@ -16,7 +16,7 @@ use Rattle.std.proofs.shelf.Bits.{div-below, mod-below}
 use Rattle.systems.specs.Meaning.{Meaning, Move, Shaped, Aimed, Good, Ruled, point, total}
 use Rattle.systems.specs.Piles.{cross, over, pair, moves-over, pile-moves, pile}
 use Rattle.quotient.specs.Stack.{stack}
-use Rattle.quotient.specs.Theorems.{Into, Stack-law, Shape-law}
+use Rattle.quotient.specs.Theorems.{Into, Pile-law, Stack-law, Shape-law}
 use Rattle.quotient.proofs.Lists.{sumBy-eq, sumBy-mul, length-cross, all-cross}
 use Rattle.quotient.proofs.Piles.{weigh-pair, pair-into}
 
@@ -104,7 +104,7 @@ module _ (A : ℕ → Bool) (U L : Meaning) (hU : Ruled U) (hL : Ruled L) where
       ap₂ (λ (x y : List Move). cond (A a) (cross (pair (L .states)) x y) (map (λ mu. pair (L .states) mu (point L v)) x ++ map (pair (L .states) (point U u)) y)) (hU .past-actions u a h) (hL .past-actions v a h)
       ∙ cond-both (A a) [] [] (λ (ms : List Move). ms ≡ []) (λ _. refl) (λ _. refl)
 
-  pub pile-ruled : Ruled (pile A U L)
+  pile-ruled : Ruled (pile A U L)
   unfolding pile-moves
   pile-ruled = record {
     states-low = one-le-mul (hU .states-low) (hL .states-low);
@@ -116,6 +116,9 @@ module _ (A : ℕ → Bool) (U L : Meaning) (hU : Ruled U) (hL : Ruled L) where
     each = by-pairs A U L (hL .states-low) (Good-in U) (Good-in L) (Good-in (pile A U L)) (hU .each) (point-good U hU) (hL .each) (point-good L hL) pair-good;
   }
 
+pub pile-law : Pile-law
+pile-law = pile-ruled
+
 pub stack-law : Stack-law
 stack-law A [] S hs h = h
-stack-law A (r ∷ rs) S hs h = pile-ruled A r (stack A rs S) (hs .0) (stack-law A rs S (hs .1) h)
+stack-law A (r ∷ rs) S hs h = pile-law A r (stack A rs S) (hs .0) (stack-law A rs S (hs .1) h)

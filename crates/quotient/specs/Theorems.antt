@@ -60,7 +60,10 @@ Order-law =
     Well-formed F →
     holds (stack A rs S) F ≡ holds (stack A rs′ S) F
 
--- stacks of systems that keep the rules keep them
+-- piles and stacks of systems that keep the rules keep them, limits set aside
+abbrev pub Pile-law : Type 0
+Pile-law = (A : ℕ → Bool) (U L : Meaning) → Ruled U → Ruled L → Ruled (pile A U L)
+
 abbrev pub Stack-law : Type 0
 Stack-law = (A : ℕ → Bool) (rs : List Meaning) (S : Meaning) → All Ruled rs → Ruled S → Ruled (stack A rs S)
 
