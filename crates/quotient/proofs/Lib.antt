@@ -7,3 +7,5 @@ pub mod Rules
 pub mod Same
 pub mod Order
 pub mod Bounds
+pub mod Held
+pub mod Laid
