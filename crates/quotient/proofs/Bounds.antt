@@ -1,19 +1,18 @@
 -- Sums of a quotient keep to their bounds.
-use mathlib.Core.Path.{_≡_, refl, sym, _∙_, ap, subst}
-use mathlib.Core.List.{List, [], _∷_, _++_, map}
+use mathlib.Core.Path.{_≡_, sym, _∙_, ap, subst}
+use mathlib.Core.List.{List, [], _∷_}
 use mathlib.Core.Bool.{Bool, true, false}
-use Prim.Native.Nat.{ℕ, _+_, _*_, _≤_, _<_}
+use Prim.Native.Nat.{ℕ, _*_, _≤_, _<_}
 use native.Mathlib.Nat.{mul-assoc, mul-comm, mul-le-mul-right, one-le-mul, zero-add}
-use native.Mathlib.Omega.{arith}
 use lib.ListN.{length}
 use Rattle.std.specs.Iters.{counting}
 use Rattle.std.specs.shelf.Lists.{All, sumBy, joined}
 use Rattle.std.proofs.shelf.Elements.{all-append, all-map}
-use Rattle.systems.specs.Meaning.{Meaning, Move, Aimed, Good, Ruled, point, total}
+use Rattle.systems.specs.Meaning.{Meaning, Move, Ruled, total}
 use Rattle.systems.specs.Piles.{cross}
 use Rattle.formulas.specs.declared.node.Term.{Term}
 use Rattle.formulas.specs.Lines.{Line, constant, both, non, step, sum, sort}
-use Rattle.quotient.specs.Quotient.{rows, row, width, new-step, new-term, new-line, new-lines, quotient-lines}
+use Rattle.quotient.specs.Quotient.{rows, row, width, new-step, new-term, new-line, new-lines}
 use Rattle.quotient.specs.Theorems.{Bounds-law}
 use Rattle.quotient.specs.WellFormed.{Bounded}
 use Rattle.quotient.proofs.Lists.{sumBy-eq, sumBy-mul, sumBy-cross, all-cross, all-counting}

@@ -2,7 +2,7 @@
 use mathlib.Core.Path.{_≡_, refl, sym, _∙_, ap, ap₂, fun-ext}
 use mathlib.Core.List.{List, [], _∷_, _++_}
 use mathlib.Core.Bool.{Bool, _||_, _&&_, not, false}
-use Prim.Native.Nat.{ℕ, zero, suc, _+_, _*_, _≤_, _<_}
+use Prim.Native.Nat.{ℕ, zero, suc, _+_, _*_, _<_}
 use native.Mathlib.Nat.{not-suc-le-zero, le-of-suc-le-suc}
 use native.Mathlib.Omega.{arith}
 use lib.Dec.{leb}
@@ -11,8 +11,8 @@ use Rattle.std.specs.Iters.{folded}
 use Rattle.std.proofs.shelf.Lists.{length-push, getD-push, getD-append-left, take-append-drop, length-take-le}
 use Rattle.systems.specs.Meaning.{Meaning, Move, point}
 use Rattle.formulas.specs.Lines.{is-state, is-dist, Line, constant, both, non, step, sum}
-use Rattle.formulas.specs.Truths.{Truth, truth, truths, never, next-truth, weigh, total}
-use Rattle.quotient.specs.WellFormed.{line-at, Part, Fits, Fitting}
+use Rattle.formulas.specs.Truths.{Truth, truth, truths, never, next-truth, weigh}
+use Rattle.quotient.specs.WellFormed.{line-at, Fits, Fitting}
 use Rattle.quotient.proofs.Lists.{any-on, any-eq, sumBy-on}
 
 abbrev pub look : List Truth → ℕ → Truth

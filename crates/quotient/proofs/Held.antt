@@ -1,10 +1,10 @@
 -- Tables that hold a formula: it is well-formed, and its sums keep to their bounds.
-use mathlib.Core.Path.{_≡_, refl, sym, _∙_, ap, ap₂, subst}
-use mathlib.Core.List.{List, [], _∷_, _++_, map}
+use mathlib.Core.Path.{_≡_, refl, sym, _∙_, ap, subst}
+use mathlib.Core.List.{List, [], _∷_, _++_}
 use mathlib.Core.Logic.{_⊎_, inl, inr}
-use mathlib.Core.Bool.{Bool, true, false, _&&_, not}
+use mathlib.Core.Bool.{true, false, _&&_, not}
 use Prim.Native.Nat.{ℕ, zero, suc, _+_, _-_, _*_, _≤_, _<_}
-use native.Mathlib.Nat.{not-suc-le-zero, le-of-suc-le-suc, zero-add}
+use native.Mathlib.Nat.{not-suc-le-zero, le-of-suc-le-suc}
 use native.Mathlib.Omega.{arith}
 use lib.Dec.{eqb, ltb, leb}
 use lib.ListN.{length, getD, drop, take}
@@ -20,8 +20,8 @@ use Rattle.formulas.specs.declared.node.StateNode as sn
 use Rattle.formulas.specs.declared.node.DistNode as dn
 use Rattle.formulas.specs.declared.node.Run.{Run}
 use Rattle.formulas.specs.declared.node.Term.{Term}
-use Rattle.formulas.specs.Lines.{Sort, state, dist, Line, constant, sort, part, entries, line, lines}
-use Rattle.formulas.specs.Stands.{stateSort, no-dist, no-state, isState, isDist, below-state, below-dist, run-ok, all-dist, term-ok, terms-ok, step-ok, sum-ok, node-ok, terms-of, alternatives-of, walk, stands}
+use Rattle.formulas.specs.Lines.{state, dist, Line, constant, sort, part, entries, line, lines}
+use Rattle.formulas.specs.Stands.{stateSort, no-dist, no-state, isState, isDist, below-state, below-dist, run-ok, all-dist, term-ok, terms-ok, step-ok, sum-ok, node-ok, terms-of, alternatives-of, walk}
 use Rattle.quotient.specs.Theorems.{Held-law}
 use Rattle.quotient.specs.WellFormed.{line-at, Part, Fits, Bounded}
 

@@ -1,7 +1,7 @@
 -- The tables of a well-formed formula whose sums keep to their bounds hold it.
 use mathlib.Core.Path.{_≡_, refl, sym, _∙_, ap, ap₂, subst}
-use mathlib.Core.List.{List, [], _∷_, _++_, map, append-assoc}
-use mathlib.Core.Bool.{Bool, true, false, _&&_, not}
+use mathlib.Core.List.{List, [], _∷_, _++_}
+use mathlib.Core.Bool.{true, false, _&&_, not}
 use Prim.Native.Nat.{ℕ, zero, suc, _+_, _-_, _*_, _≤_, _<_}
 use native.Mathlib.Nat.{not-suc-le-zero, le-of-suc-le-suc, add-zero}
 use native.Mathlib.Omega.{arith}
@@ -11,55 +11,32 @@ use Rattle.std.specs.shelf.Lists.{All, sumBy}
 use Rattle.std.proofs.shelf.Lists.{length-append, drop-drop, take-at, drop-at}
 use Rattle.std.proofs.shelf.Elements.{all-append}
 use Rattle.std.proofs.shelf.Sums.{sumBy-cons}
-use Rattle.std.proofs.shelf.Tests.{and-from, not-from-false, lt-ltb, le-leb, eq-eqb}
+use Rattle.std.proofs.shelf.Tests.{and-from, lt-ltb, le-leb, eq-eqb}
 use Rattle.formulas.specs.declared.node.Node.{Node}
 use Rattle.formulas.specs.declared.node.Term.{Term}
-use Rattle.formulas.specs.Lines.{Sort, state, dist, is-state, Line, constant, both, non, step, sum, sort, part}
+use Rattle.formulas.specs.Lines.{state, dist, is-state, Line, constant, both, non, step, sum, sort, part}
 use Rattle.formulas.specs.Layout.{run, terms-in, alternatives-in, node, node-table, term-table, alternative-table}
-use Rattle.formulas.specs.Stands.{stateSort, no-dist, no-state, isState, isDist, below-state, below-dist, run-ok, all-dist, term-ok, terms-ok, step-ok, sum-ok, node-ok, terms-of, alternatives-of, walk, stands}
+use Rattle.formulas.specs.Stands.{stateSort, no-dist, no-state, isState, isDist, below-state, below-dist, run-ok, all-dist, term-ok, terms-ok, step-ok, sum-ok, node-ok, terms-of, alternatives-of, walk}
 use Rattle.quotient.specs.Theorems.{Laid-law}
 use Rattle.quotient.specs.WellFormed.{line-at, Part, Fits, Bounded}
 
-node-sort : (t a : ℕ) (l : Line) → stateSort (node t a l) ≡ is-state (sort l)
-node-sort t a (constant state true) = refl
-node-sort t a (constant state false) = refl
-node-sort t a (constant dist true) = refl
-node-sort t a (constant dist false) = refl
-node-sort t a (both state i j) = refl
-node-sort t a (both dist i j) = refl
-node-sort t a (non state i) = refl
-node-sort t a (non dist i) = refl
-node-sort t a (step x ms hs) = refl
-node-sort t a (sum x ks) = refl
+-- the node of a line has its sort, and as many terms and alternatives
+node-is : (t a : ℕ) (l : Line) → (stateSort (node t a l) ≡ is-state (sort l)) × (terms-of (node t a l) ≡ length (terms-in l)) × (alternatives-of (node t a l) ≡ length (alternatives-in l))
+node-is t a (constant state true) = (refl, refl, refl)
+node-is t a (constant state false) = (refl, refl, refl)
+node-is t a (constant dist true) = (refl, refl, refl)
+node-is t a (constant dist false) = (refl, refl, refl)
+node-is t a (both state i j) = (refl, refl, refl)
+node-is t a (both dist i j) = (refl, refl, refl)
+node-is t a (non state i) = (refl, refl, refl)
+node-is t a (non dist i) = (refl, refl, refl)
+node-is t a (step x ms hs) = (refl, refl, sym (length-append ms hs))
+node-is t a (sum x ks) = (refl, refl, refl)
 
 table-sort : (t a : ℕ) (ls : List Line) (j : ℕ) (d : Node) → j < length ls → stateSort (getD (node-table t a ls) j d) ≡ is-state (sort (line-at ls j))
 table-sort t a [] j d h = absurd (not-suc-le-zero h)
-table-sort t a (l ∷ ls) zero d h = node-sort t a l
+table-sort t a (l ∷ ls) zero d h = node-is t a l .0
 table-sort t a (l ∷ ls) (suc j) d h = table-sort (t + length (terms-in l)) (a + length (alternatives-in l)) ls j d (le-of-suc-le-suc h)
-
-terms-counted : (t a : ℕ) (l : Line) → terms-of (node t a l) ≡ length (terms-in l)
-terms-counted t a (constant state true) = refl
-terms-counted t a (constant state false) = refl
-terms-counted t a (constant dist true) = refl
-terms-counted t a (constant dist false) = refl
-terms-counted t a (both state i j) = refl
-terms-counted t a (both dist i j) = refl
-terms-counted t a (non state i) = refl
-terms-counted t a (non dist i) = refl
-terms-counted t a (step x ms hs) = refl
-terms-counted t a (sum x ks) = refl
-
-alternatives-counted : (t a : ℕ) (l : Line) → alternatives-of (node t a l) ≡ length (alternatives-in l)
-alternatives-counted t a (constant state true) = refl
-alternatives-counted t a (constant state false) = refl
-alternatives-counted t a (constant dist true) = refl
-alternatives-counted t a (constant dist false) = refl
-alternatives-counted t a (both state i j) = refl
-alternatives-counted t a (both dist i j) = refl
-alternatives-counted t a (non state i) = refl
-alternatives-counted t a (non dist i) = refl
-alternatives-counted t a (step x ms hs) = sym (length-append ms hs)
-alternatives-counted t a (sum x ks) = refl
 
 run-stands : (len p n : ℕ) → p + n ≤ len → run-ok len p (run p n) ≡ true
 run-stands len p n h = and-from (eqb p p) (leb (p + n) len) (eq-eqb p p refl) (le-leb (p + n) len h)
@@ -141,11 +118,10 @@ module _ (ls : List Line) where
     walk-stands i t a [] ot oa l f b =
         and-from (eqb t (length ts)) (eqb a (length alts)) (eq-eqb t (length ts) (sym (add-zero t) ∙ ot .size)) (eq-eqb a (length alts) (sym (add-zero a) ∙ oa .size))
     walk-stands i t a (x ∷ rest) ot oa l f b =
-        let et = terms-counted t a x in
-        let ea = alternatives-counted t a x in
+        let is = node-is t a x in
         and-from (node-ok ns ts alts m i t a (node t a x)) (walk ns ts alts m (i + 1) (t + terms-of (node t a x)) (a + alternatives-of (node t a x)) (node-table (t + length (terms-in x)) (a + length (alternatives-in x)) rest))
         (node-stands i (omega arith) ts alts m t a x (term-table rest) (alternative-table rest) ot oa (f i 0 (sym (add-zero i)) (omega arith)) (b .0))
-        (ap₂ (λ (p q : ℕ). walk ns ts alts m (i + 1) (t + p) (a + q) (node-table (t + length (terms-in x)) (a + length (alternatives-in x)) rest)) et ea
+        (ap₂ (λ (p q : ℕ). walk ns ts alts m (i + 1) (t + p) (a + q) (node-table (t + length (terms-in x)) (a + length (alternatives-in x)) rest)) (is .1) (is .2)
         ∙ walk-stands (i + 1) (t + length (terms-in x)) (a + length (alternatives-in x)) rest
         (part-next ts t (terms-in x) (term-table rest) ot (length (terms-in x)) refl)
         (part-next alts a (alternatives-in x) (alternative-table rest) oa (length (alternatives-in x)) refl)

@@ -1,10 +1,9 @@
 -- The order of the systems in a stack does not matter.
 use mathlib.Core.Path.{_≡_, refl, sym, _∙_, ap, ap₂, subst}
-use mathlib.Core.List.{List, [], _∷_, _++_, map, List·Permᴰ, List·Permᴰ·nil, List·Permᴰ·cons, List·Permᴰ·swap, List·Permᴰ·trans}
+use mathlib.Core.List.{List, _++_, map, List·Permᴰ, List·Permᴰ·nil, List·Permᴰ·cons, List·Permᴰ·swap, List·Permᴰ·trans}
 use mathlib.Core.Bool.{Bool, true, false, cond, _||_}
-use Prim.Native.Nat.{ℕ, _+_, _*_, _/_, _%_, _≤_, _<_}
+use Prim.Native.Nat.{ℕ, _+_, _*_, _/_, _%_, _<_}
 use native.Mathlib.Nat.{mul-left-comm, one-le-mul, zero-div, zero-mod, zero-mul, add-zero}
-use native.Mathlib.Omega.{arith}
 use lib.Arith.{digits-lt}
 use Rattle.std.specs.shelf.Lists.{All, sumBy}
 use Rattle.std.proofs.shelf.Bits.{div-add-mod', div-mul-add, mod-mul-add, div-below, mod-below}
@@ -19,8 +18,8 @@ use Rattle.quotient.specs.WellFormed.{Well-formed}
 use Rattle.quotient.proofs.Lists.{any-append, any-on, any-eq, any-map, any-swap, any-cross, or-left, sumBy-on, sumBy-eq, sumBy-swap, sumBy-cross}
 use Rattle.quotient.proofs.Piles.{pile-at, pair-into}
 use Rattle.quotient.proofs.Quotients.{quotient-law}
-use Rattle.quotient.proofs.Rules.{pile-shaped, stack-shaped}
-use Rattle.quotient.proofs.Same.{Near, Mapped, same-holds}
+use Rattle.quotient.proofs.Rules.{stack-shaped}
+use Rattle.quotient.proofs.Same.{Near, same-holds}
 
 -- a test of the moves of two systems on X
 module _ (A : ℕ → Bool) (r₁ r₂ X : Meaning) (φ : Move → Bool) where

@@ -1,16 +1,15 @@
 -- The moves of a pile, and what they weigh.
-use mathlib.Core.Path.{_≡_, refl, sym, _∙_, ap, ap₂, subst}
-use mathlib.Core.List.{List, [], _∷_, _++_, map}
+use mathlib.Core.Path.{_≡_, refl, sym, _∙_, ap, ap₂}
+use mathlib.Core.List.{[]}
 use mathlib.Core.Bool.{Bool, true, false, cond}
-use Prim.Native.Nat.{ℕ, _+_, _*_, _/_, _%_, _≤_, _<_}
+use Prim.Native.Nat.{ℕ, _+_, _*_, _/_, _%_, _<_}
 use native.Mathlib.Nat.{mul-zero}
-use native.Mathlib.Omega.{arith}
 use lib.Arith.{digits-lt}
-use Rattle.std.specs.shelf.Lists.{All, sumBy}
+use Rattle.std.specs.shelf.Lists.{sumBy}
 use Rattle.std.proofs.shelf.Tests.{lt-ltb, cond-true}
 use Rattle.std.proofs.shelf.Bits.{div-mul-add, mod-mul-add}
-use Rattle.systems.specs.Meaning.{Meaning, Move, point}
-use Rattle.systems.specs.Piles.{cross, over, pair, moves-over, pile-moves, pile}
+use Rattle.systems.specs.Meaning.{Meaning, Move}
+use Rattle.systems.specs.Piles.{over, pair, moves-over, pile-moves, pile}
 use Rattle.formulas.specs.Truths.{weigh}
 use Rattle.quotient.specs.Theorems.{Into}
 use Rattle.quotient.proofs.Lists.{sumBy-on, sumBy-eq, sumBy-mul, sumBy-cross, all-cross}

@@ -1,18 +1,17 @@
 -- Where the rows of a system and the lines of a quotient are, and that the quotient is well-formed.
-use mathlib.Core.Path.{_≡_, refl, sym, _∙_, ap, ap₂, subst}
-use mathlib.Core.List.{List, [], _++_, map}
+use mathlib.Core.Path.{_≡_, refl, sym, _∙_, ap, subst}
+use mathlib.Core.List.{List, [], map}
 use mathlib.Core.Bool.{Bool, true, false}
-use Prim.Native.Nat.{ℕ, _+_, _*_, _≤_, _<_}
+use Prim.Native.Nat.{ℕ, _+_, _≤_, _<_}
 use native.Mathlib.Nat.{zero-add}
 use native.Mathlib.Omega.{arith}
-use lib.ListN.{length, getD, take}
+use lib.ListN.{length, getD}
 use Rattle.std.specs.Iters.{counting}
 use Rattle.std.specs.shelf.Lists.{All, joined, sumBy}
 use Rattle.std.proofs.shelf.Lists.{length-append, getD-append-left, getD-append-add, take-all}
 use Rattle.std.proofs.shelf.Elements.{all-append, all-map, all-weaker, all-getD}
 use Rattle.std.proofs.shelf.Counted.{length-map-counting, getD-map-counting}
 use Rattle.systems.specs.Meaning.{Meaning, Move, Shaped, point}
-use Rattle.systems.specs.Piles.{cross}
 use Rattle.formulas.specs.Lines.{Sort, state, dist, Line, constant, both, non, step, sum, sort, Formula}
 use Rattle.quotient.specs.Quotient.{moves-of, rows, row, first-row, move-rows, width, place, places, move-places, new-step, new-term, new-line, new-lines, quotient-lines, quotient}
 use Rattle.quotient.specs.Theorems.{Into}

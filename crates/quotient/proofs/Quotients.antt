@@ -1,25 +1,24 @@
 -- A quotient holds of a system exactly if the formula holds of the removed system over it.
 use mathlib.Core.Path.{_≡_, refl, sym, _∙_, ap, ap₂, subst, subst₃}
-use mathlib.Core.List.{List, [], _∷_, _++_, map}
+use mathlib.Core.List.{List, [], _++_, map}
 use mathlib.Core.Bool.{Bool, true, false, cond, _||_, _&&_, not}
-use Prim.Native.Nat.{ℕ, _+_, _*_, _≤_, _<_}
+use Prim.Native.Nat.{ℕ, _+_, _*_, _<_}
 use native.Mathlib.Nat.{mul-assoc, zero-mul, add-zero}
 use native.Mathlib.Omega.{arith}
 use lib.Dec.{leb}
-use lib.ListN.{length, getD}
-use Rattle.std.specs.shelf.Lists.{All, sumBy}
-use Rattle.std.proofs.shelf.Elements.{all-weaker}
+use lib.ListN.{length}
+use Rattle.std.specs.shelf.Lists.{All}
 use Rattle.systems.specs.Meaning.{Meaning, Move, Shaped, point}
 use Rattle.systems.specs.Piles.{cross, pair, moves-over, pile}
 use Rattle.formulas.specs.declared.node.Term.{Term}
-use Rattle.formulas.specs.Lines.{Sort, state, dist, Line, constant, both, non, step, sum, sort, Formula}
-use Rattle.formulas.specs.Truths.{Truth, truth, truths, at-node, of-node, weigh, total, any, holds-at, holds}
+use Rattle.formulas.specs.Lines.{Sort, state, dist, Line, constant, both, non, step, sum, sort}
+use Rattle.formulas.specs.Truths.{Truth, truth, truths, at-node, weigh, total, any, holds}
 use Rattle.quotient.specs.Quotient.{rows, row, first-row, move-rows, width, place, places, move-places, new-step, new-term, new-line, quotient-lines, quotient}
 use Rattle.quotient.specs.Theorems.{Into, Quotient-law, Quotient-at}
-use Rattle.quotient.specs.WellFormed.{line-at, Part, Fits, Fitting, Well-formed}
-use Rattle.quotient.proofs.Lists.{each, or-left, or-assoc, any-append, any-on, any-eq, any-map, any-swap, any-cross, any-counting, sumBy-on, sumBy-mul, sumBy-cross}
+use Rattle.quotient.specs.WellFormed.{line-at, Part, Fits, Fitting}
+use Rattle.quotient.proofs.Lists.{each, or-left, or-assoc, any-append, any-on, any-map, any-swap, any-cross, any-counting, sumBy-on, sumBy-mul, sumBy-cross}
 use Rattle.quotient.proofs.Course.{look, truths-at}
-use Rattle.quotient.proofs.Places.{point-row, row-point, move-row, row-move, rows-all, wide, line-at-place, place-is, quotient-fits, quotient-formed}
+use Rattle.quotient.proofs.Places.{point-row, row-point, move-row, row-move, rows-all, line-at-place, place-is, quotient-fits, quotient-formed}
 use Rattle.quotient.proofs.Piles.{pile-at, weigh-on, weigh-pair}
 
 module _ (A : ℕ → Bool) (R S : Meaning) where

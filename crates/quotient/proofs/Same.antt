@@ -1,17 +1,16 @@
 -- Where the states of one system map to those of another, and moves match, the same formulas hold.
 use mathlib.Core.Path.{_≡_, refl, sym, _∙_, ap, ap₂, subst₂}
-use mathlib.Core.List.{List, [], _∷_}
+use mathlib.Core.List.{List}
 use mathlib.Core.Bool.{Bool, cond, _||_, _&&_, not}
 use Prim.Native.Nat.{ℕ, _+_, _*_, _≤_, _<_}
 use native.Mathlib.Omega.{arith}
 use lib.Dec.{leb}
 use lib.ListN.{length}
-use Rattle.std.specs.shelf.Lists.{All, sumBy}
 use Rattle.systems.specs.Meaning.{Meaning, Move, point}
 use Rattle.formulas.specs.Lines.{is-state, is-dist, Line, constant, both, non, step, sum, Formula}
 use Rattle.formulas.specs.Truths.{Truth, truth, truths, at-node, weigh, any, holds}
 use Rattle.quotient.specs.Theorems.{Into}
-use Rattle.quotient.specs.WellFormed.{line-at, Part, Fits, Fitting, Well-formed}
+use Rattle.quotient.specs.WellFormed.{line-at, Fits, Fitting, Well-formed}
 use Rattle.quotient.proofs.Lists.{each, any-on, sumBy-on}
 use Rattle.quotient.proofs.Course.{look, truths-at}
 use Rattle.quotient.proofs.Piles.{weigh-on}
