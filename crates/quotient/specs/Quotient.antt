@@ -19,6 +19,7 @@ moves-of R p = joined (R .moves p) (counting 0 32)
 unfoldable pub rows : Meaning → List Move
 rows R = map (point R) (counting 0 (R .states)) ++ joined (moves-of R) (counting 0 (R .states))
 
+-- the row of a number
 abbrev pub row : Meaning → ℕ → Move
 row R r = getD (rows R) r []
 
@@ -65,9 +66,11 @@ new-line A R ls (non σ i) p = non σ (place R ls i p)
 new-line A R ls (step a ms hs) p = new-step (A a) R ls a ms hs p
 new-line A R ls (sum t ks) p = sum (t * R .mass) (cross (new-term R ls) ks (row R p))
 
+-- all that a line gives, in order
 abbrev pub new-lines : (ℕ → Bool) → Meaning → List Line → Line → List Line
 new-lines A R ls l = map (new-line A R ls l) (counting 0 (width R (sort l)))
 
+-- what each line gives, in the order of the lines
 abbrev pub quotient-lines : (ℕ → Bool) → Meaning → List Line → List Line
 quotient-lines A R ls = joined (new-lines A R ls) ls
 
