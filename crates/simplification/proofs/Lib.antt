@@ -1,2 +1,4 @@
 pub mod Lists
 pub mod Outcomes
+pub mod Prune
+pub mod Forms

@@ -11,8 +11,8 @@ use Rattle.std.proofs.shelf.Lists.{length-map}
 use Rattle.std.proofs.shelf.Elements.{all-weaker, all-append, all-map, all-kept-by}
 use Rattle.formulas.specs.declared.node.Term.{Term}
 use Rattle.formulas.specs.Lines.{Sort, state, dist, Line, constant, both, non, step, sum, sort, Formula}
-use Rattle.simplification.specs.Well-formed.{line-at, parts, wants, coefficients}
-use Rattle.simplification.specs.Simplify.{Tone, yes, no, neither, tone, tone-of, is-yes, is-no, is-neither, Outcome, own, both-outcome, non-line, step-line, sum-line, alternatives-left, has-yes, retarget, terms-left, yes-part, became, blank, outcomes, settle}
+use Rattle.simplification.specs.WellFormed.{line-at}
+use Rattle.simplification.specs.Simplify.{parts, coefficients, Tone, yes, no, neither, tone, tone-of, is-yes, is-no, is-neither, Outcome, own, both-outcome, non-line, step-line, sum-line, alternatives-left, has-yes, retarget, terms-left, yes-part, became, blank, outcomes, settle}
 use Rattle.std.proofs.shelf.Tests.{eqb-false, ltb-false}
 use Rattle.simplification.proofs.Lists.{all-front, all-back, all-of-map, any-same, map-kept-same, kept-same, strong, grown-at, grown-length}
 
@@ -56,6 +56,14 @@ module _ (E E′ : ℕ → Outcome) where
       let k = terms-same ks g in
       let y = yes-part-same ks g in
       λ i. own n (sum-line (t - y i) (k i))
+
+-- the sort that the parts of a line have
+abbrev pub wants : Line → Sort
+wants (constant σ b) = σ
+wants (both σ i j) = σ
+wants (non σ i) = σ
+wants (step a ms hs) = dist
+wants (sum t ks) = state
 
 -- the parts of every line stand before it
 abbrev pub Ordered : List Line → Type 0

@@ -11,7 +11,7 @@ use Rattle.formulas.specs.declared.node.Fills.{Fills}
 use Rattle.formulas.specs.Lines.{state, dist, Line, constant, both, non, step, sum, Formula}
 use Rattle.formulas.specs.Truths.{truths, at-node}
 use Rattle.formulas.specs.Layout.{fills}
-use Rattle.simplification.specs.Well-formed.{Well-formed, Bounded, line-at}
+use Rattle.simplification.specs.WellFormed.{Well-formed, Bounded, line-at}
 use Rattle.simplification.specs.Simplify.{simplify}
 
 -- the weights of a move add up to the mass
@@ -38,7 +38,7 @@ abbrev pub Keeps-form-law : Type 0
 Keeps-form-law = (F : Formula) → Well-formed F → Well-formed (simplify F)
 
 abbrev pub Keeps-bounds-law : Type 0
-Keeps-bounds-law = (m : ℕ) (F : Formula) → Well-formed F → Bounded m F → Bounded m (simplify F)
+Keeps-bounds-law = (m : ℕ) (F : Formula) → Well-formed F → All (Bounded m) (F .lines) → All (Bounded m) (simplify F .lines)
 
 -- whether a line is a step with a move alternative
 abbrev pub moving : Line → Bool

@@ -1,4 +1,4 @@
-pub mod Well-formed
+pub mod WellFormed
 pub mod Simplify
 pub mod Laws
 pub mod Examples

@@ -5,11 +5,10 @@ use Prim.Native.Nat.{ℕ, zero, suc, _-_}
 use lib.Dec.{eqb, ltb}
 use lib.ListN.{length, getD}
 use Rattle.std.specs.Iters.{folded}
-use Rattle.std.specs.shelf.Lists.{kept-by}
+use Rattle.std.specs.shelf.Lists.{kept-by, sumBy}
 use Rattle.formulas.specs.declared.node.Term.{Term}
 use Rattle.formulas.specs.Lines.{Sort, state, dist, Line, constant, both, non, step, sum, Formula}
 use Rattle.formulas.specs.Truths.{any}
-use Rattle.simplification.specs.Well-formed.{line-at, parts, coefficients}
 
 -- what a line is seen to be: yes, no, or neither
 pub data Tone : Type 0 where
@@ -69,6 +68,9 @@ step-line a [] [] = constant state false
 step-line a [] (h ∷ hs) = step a [] (h ∷ hs)
 step-line a (m ∷ ms) hs = step a (m ∷ ms) hs
 
+abbrev pub coefficients : List Term → ℕ
+coefficients ks = sumBy (λ k. k .coefficient) ks
+
 -- a sum with threshold 0 is yes, one whose coefficients do not add up to the threshold is no
 abbrev pub sum-line : ℕ → List Term → Line
 sum-line t ks = cond (eqb t 0) (constant dist true) (cond (ltb (coefficients ks) t) (constant dist false) (sum t ks))
@@ -124,6 +126,14 @@ settle F = record
   ; root = getD (outcomes (F .lines)) (F .root) blank .to
   }
 
+-- the numbers of the lines that a line is made of
+abbrev pub parts : Line → List ℕ
+parts (constant σ b) = []
+parts (both σ i j) = i ∷ j ∷ []
+parts (non σ i) = i ∷ []
+parts (step a ms hs) = ms ++ hs
+parts (sum t ks) = map (λ k. k .node) ks
+
 abbrev pub member : ℕ → List ℕ → Bool
 member i xs = any (λ x. eqb x i) xs
 
@@ -141,6 +151,10 @@ abbrev pub rank : (ℕ → Bool) → ℕ → ℕ
 rank keep zero = 0
 rank keep (suc i) = cond (keep i) (suc (rank keep i)) (rank keep i)
 
+-- the number of line i among the lines that are kept
+abbrev pub place : Formula → ℕ → ℕ
+place F i = rank (kept F) i
+
 abbrev pub renumber : (ℕ → ℕ) → Line → Line
 renumber f (constant σ b) = constant σ b
 renumber f (both σ i j) = both σ (f i) (f j)
@@ -155,10 +169,7 @@ compact keep f i (l ∷ ls) = cond (keep i) (renumber f l ∷ compact keep f (su
 
 -- the lines that the root reaches, in their order
 abbrev pub prune : Formula → Formula
-prune F = record
-  { lines = compact (kept F) (rank (kept F)) 0 (F .lines)
-  ; root = rank (kept F) (F .root)
-  }
+prune F = record { lines = compact (kept F) (place F) 0 (F .lines); root = place F (F .root) }
 
 abbrev pub simplify : Formula → Formula
 simplify F = prune (settle F)
