@@ -2,3 +2,5 @@ pub mod Lists
 pub mod Outcomes
 pub mod Prune
 pub mod Forms
+pub mod Truths
+pub mod Keeps
