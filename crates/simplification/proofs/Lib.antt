@@ -4,3 +4,5 @@ pub mod Prune
 pub mod Forms
 pub mod Truths
 pub mod Keeps
+pub mod Settled
+pub mod Fewer
