@@ -22,6 +22,14 @@ Truth-law =
     i < length ns →
     getD (truths S (lines ns ts alts)) i never ≡ truth S (truths S (lines ns ts alts)) (line ts alts (getD ns i d))
 
+-- so it is in every list of lines whose parts come before them
+abbrev pub Course-law : Type 0
+Course-law =
+    (S : Meaning) (ls : List Line) (i : ℕ) →
+    Formed ls →
+    i < length ls →
+    getD (truths S ls) i never ≡ truth S (truths S ls) (getD ls i (constant state true))
+
 -- in the lines of tables that hold a formula, the parts of each line come before it
 abbrev pub Formed-law : Type 0
 Formed-law =

@@ -4,7 +4,7 @@ ghost use mathlib.Core.Bool.{true, _&&_};
 ghost use Prim.Native.Nat.{_*_, _≤_};
 ghost use lib.Dec.{leb};
 ghost use lib.ListN.{length, take};
-ghost use Rattle.formulas.specs.Laws.{Truth-law, Formed-law, In-law, Of-law, Layout-law, Lines-law};
+ghost use Rattle.formulas.specs.Laws.{Truth-law, Course-law, Formed-law, In-law, Of-law, Layout-law, Lines-law};
 ghost use Rattle.formulas.specs.Right.{All-right};
 ghost use Rattle.formulas.specs.Stands.{stateSort, isState, isDist, below-state, below-dist, run-ok, all-dist, term-ok, terms-ok, step-ok, sum-ok, state-ok, dist-ok, node-ok, terms-of, alternatives-of, stands, formula-in};
 use crate::node::DistNode;
@@ -299,6 +299,13 @@ pub fn formula_in(
 // The law of truth.
 pub fn truth_stands() -> u8
     ensures { λ _. ⌜ Truth-law ⌝ }
+{
+    0
+}
+
+// The law of truth on lines alone.
+pub fn course_stands() -> u8
+    ensures { λ _. ⌜ Course-law ⌝ }
 {
     0
 }

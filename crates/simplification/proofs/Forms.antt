@@ -10,6 +10,7 @@ use Rattle.std.proofs.shelf.Elements.{all-weaker, all-append, all-map, all-kept
 use Rattle.std.proofs.shelf.Sums.{sumBy-cons}
 use Rattle.formulas.specs.declared.node.Term.{Term}
 use Rattle.formulas.specs.Lines.{Sort, state, dist, Line, constant, both, non, step, sum, sort, Formula}
+use Rattle.formulas.specs.Right.{Below, Formed}
 use Rattle.simplification.specs.WellFormed.{line-at, Part, Fits, Fitting, Well-formed, Bounded}
 use Rattle.simplification.specs.Simplify.{parts, coefficients, Outcome, alternatives-left, is-neither, tone-of, yes-part, terms-left, retarget, settle, kept, place, renumber, prune, simplify}
 use Rattle.simplification.specs.Laws.{Keeps-form-law, Keeps-bounds-law}
@@ -51,6 +52,17 @@ module _ (ls : List Line) (i : ℕ) where
 pub fitting-ordered : (ls : List Line) → Fitting ls → Ordered ls
 fitting-ordered ls f i h =
     all-weaker (Part ls i (wants (line-at ls i))) (λ j. j < i) (λ j p. p .before) (parts (line-at ls i)) (fits-parts ls i (line-at ls i) (f i h))
+
+pub fitting-formed : (ls : List Line) → Fitting ls → Formed ls
+fitting-formed ls f i h = go (line-at ls i) (f i h)
+  where
+    go : (l : Line) → Fits ls i l → Below i l
+    go (constant σ b) p = tt
+    go (both σ j k) p = (p .0 .before, p .1 .before)
+    go (non σ j) p = p .before
+    go (step a ms hs) p =
+        (all-weaker (Part ls i dist) (λ d. d < i) (λ d q. q .before) ms (p .1), all-weaker (Part ls i dist) (λ d. d < i) (λ d q. q .before) hs (p .2))
+    go (sum t ks) p = all-weaker (λ k. Part ls i state (k .node)) (λ k. k .node < i) (λ k q. q .before) ks p
 
 -- what stays true of a line whatever becomes of it
 record Lasting (Q : Line → Type 0) : Type 0 where
