@@ -31,14 +31,14 @@ fixed : (ls : List Line) → Ordered ls → (i : ℕ) → i < length ls → All 
 fixed ls o = by-turns ls o (λ n x. All (λ k. outcome ls k .to ≡ k) (parts (x .line))) (λ n h f x t.
     let l : Line = line-at ls n in
     turn-fixed n (outcome ls) l x t
-      (all-weaker (λ j. j < n) (λ j. All (λ k. outcome ls k .to ≡ k) (parts (outcome ls j .line))) (λ j k. f j k .1) (parts l) (o n h))
-      (all-weaker (λ j. j < n) (λ j. outcome ls (outcome ls j .to) .to ≡ outcome ls j .to) (λ j k. ap (λ (y : Outcome). y .to) (f j k .0 .stable)) (parts l) (o n h)))
+    (all-weaker (λ j. j < n) (λ j. All (λ k. outcome ls k .to ≡ k) (parts (outcome ls j .line))) (λ j k. f j k .1) (parts l) (o n h))
+    (all-weaker (λ j. j < n) (λ j. outcome ls (outcome ls j .to) .to ≡ outcome ls j .to) (λ j k. ap (λ (y : Outcome). y .to) (f j k .0 .stable)) (parts l) (o n h)))
 
 -- only lines that stand for themselves are kept
 pub kept-fixed : (F : Formula) → Ordered (F .lines) → F .root < length (F .lines) → (i : ℕ) → kept (settle F) i ≡ true → outcome (F .lines) i .to ≡ i
 kept-fixed F o r =
     kept-only (λ i. outcome (F .lines) i .to ≡ i) (settle F) (ap (λ (y : Outcome). y .to) (placed (F .lines) o (F .root) r .stable))
-      (λ i h _. subst (λ (l : Line). All (λ k. outcome (F .lines) k .to ≡ k) (parts l)) (sym (lines-get (F .lines) i)) (fixed (F .lines) o i (omega (arith, lines-length (F .lines)))))
+    (λ i h _. subst (λ (l : Line). All (λ k. outcome (F .lines) k .to ≡ k) (parts l)) (sym (lines-get (F .lines) i)) (fixed (F .lines) o i (omega (arith, lines-length (F .lines)))))
 
 -- a size that no line gains
 record Shrinking (size : Line → ℕ) : Type 0 where
@@ -56,7 +56,7 @@ module _ (size : Line → ℕ) (q : Shrinking size) where
   sizes : (ls : List Line) → Ordered ls → (i : ℕ) → i < length ls → outcome ls i .to ≡ i → size (outcome ls i .line) ≤ size (line-at ls i)
   sizes ls o = by-turns ls o (λ n x. x .to ≡ n → size (x .line) ≤ size (line-at ls n)) (λ n h f x t.
       turn-size n (outcome ls) (line-at ls n) x t
-        (all-weaker (λ j. j < n) (λ j. outcome ls j .to < n) (λ j k. omega (arith, f j k .0 .near)) (parts (line-at ls n)) (o n h)))
+      (all-weaker (λ j. j < n) (λ j. outcome ls j .to < n) (λ j k. omega (arith, f j k .0 .near)) (parts (line-at ls n)) (o n h)))
 
   sum-size : List Line → ℕ
   sum-size [] = 0
@@ -81,10 +81,10 @@ module _ (size : Line → ℕ) (q : Shrinking size) where
       let ls : List Line = F .lines in
       let o : Ordered ls = fitting-ordered ls (w .lines) in
       compact-size (kept (settle F)) (place (settle F)) 0 (settle F .lines) ls (lines-length ls) (λ i n s h k.
-        let z : n ≡ i = omega arith in
-        let g : i < length ls = omega (arith, lines-length ls) in
-        subst (λ (l : Line). size l ≤ size (line-at ls i)) (sym (lines-get ls i))
-          (sizes ls o i g (kept-fixed F o (w .root .before) i (subst (λ (x : ℕ). kept (settle F) x ≡ true) z k))))
+      let z : n ≡ i = omega arith in
+      let g : i < length ls = omega (arith, lines-length ls) in
+      subst (λ (l : Line). size l ≤ size (line-at ls i)) (sym (lines-get ls i))
+      (sizes ls o i g (kept-fixed F o (w .root .before) i (subst (λ (x : ℕ). kept (settle F) x ≡ true) z k))))
 
 kept-fewer : {X : Type 0} (p : X → Bool) (xs : List X) → length (kept-by p xs) ≤ length xs
 kept-fewer p xs = omega (arith, length-kept-by p xs, countBy-le-length p xs)
@@ -100,6 +100,7 @@ terms-shrink = record { settles = λ σ b. refl; shrinks = shrinks; moves = move
     shrinks E (sum t ks) =
         let p : Term → Bool = λ k. is-neither (tone-of E (k .node)) in
         omega (arith, length-map (kept-by p ks) (retarget (λ j. E j .to)), kept-fewer p ks)
+
     moves : (f : ℕ → ℕ) (l : Line) → length (terms-in (renumber f l)) ≡ length (terms-in l)
     moves f (constant σ b) = refl
     moves f (both σ i j) = refl
@@ -114,6 +115,7 @@ alternatives-shrink = record { settles = λ σ b. refl; shrinks = shrinks; moves
     fewer E ds =
         let p : ℕ → Bool = λ d. not (is-no (tone-of E d)) in
         omega (arith, length-map (kept-by p ds) (λ d. E d .to), kept-fewer p ds)
+
     shrinks : (E : ℕ → Outcome) (l : Line) → length (alternatives-in (shrunk E l)) ≤ length (alternatives-in l)
     shrinks E (constant σ b) = omega arith
     shrinks E (both σ i j) = omega arith
@@ -121,6 +123,7 @@ alternatives-shrink = record { settles = λ σ b. refl; shrinks = shrinks; moves
     shrinks E (step a ms hs) =
         omega (arith, length-append (alternatives-left E ms) (alternatives-left E hs), length-append ms hs, fewer E ms, fewer E hs)
     shrinks E (sum t ks) = omega arith
+
     moves : (f : ℕ → ℕ) (l : Line) → length (alternatives-in (renumber f l)) ≡ length (alternatives-in l)
     moves f (constant σ b) = refl
     moves f (both σ i j) = refl
@@ -141,8 +144,8 @@ alternative-table-size (l ∷ ls) = omega (arith, length-append (alternatives-in
 pub fewer : Fills-law
 fewer F w =
     let G : Formula = settle F in
-    record
-      { nodes = omega (arith, pruned-length G, rank-small (kept G) (length (G .lines)), lines-length (F .lines))
-      ; terms = omega (arith, term-table-size (simplify F .lines), term-table-size (F .lines), simplify-size (λ l. length (terms-in l)) terms-shrink F w)
-      ; alternatives = omega (arith, alternative-table-size (simplify F .lines), alternative-table-size (F .lines), simplify-size (λ l. length (alternatives-in l)) alternatives-shrink F w)
-      }
+    record {
+      nodes = omega (arith, pruned-length G, rank-small (kept G) (length (G .lines)), lines-length (F .lines));
+      terms = omega (arith, term-table-size (simplify F .lines), term-table-size (F .lines), simplify-size (λ l. length (terms-in l)) terms-shrink F w);
+      alternatives = omega (arith, alternative-table-size (simplify F .lines), alternative-table-size (F .lines), simplify-size (λ l. length (alternatives-in l)) alternatives-shrink F w);
+    }

@@ -84,10 +84,10 @@ module _ (Q : Line → Type 0) (q : Lasting Q) where
   settle-lasts F o e i h =
       let ls : List Line = F .lines in
       subst Q (sym (lines-get ls i))
-        (by-turns ls o (λ n x. Q (x .line))
-          (λ n g f x t. turn-lasts n (outcome ls) (line-at ls n) x t
-            (all-weaker (λ j. j < n) (λ j. Q (outcome ls j .line)) (λ j k. f j k .1) (parts (line-at ls n)) (o n g)) (e n g))
-          i (omega (arith, lines-length ls)))
+      (by-turns ls o (λ n x. Q (x .line))
+      (λ n g f x t. turn-lasts n (outcome ls) (line-at ls n) x t
+      (all-weaker (λ j. j < n) (λ j. Q (outcome ls j .line)) (λ j k. f j k .1) (parts (line-at ls n)) (o n g)) (e n g))
+      i (omega (arith, lines-length ls)))
 
   prune-lasts : (F : Formula) → Each Q (F .lines) → Each Q (prune F .lines)
   prune-lasts F e = pruned-each F (λ m l. Q l) (λ i h k. q .moves (place F) (line-at (F .lines) i) (e i h))
@@ -101,6 +101,7 @@ acts-last = record { settles = λ σ b. tt; shrinks = shrinks; moves = moves }
     shrinks E (non σ i) h = tt
     shrinks E (step a ms hs) h = h
     shrinks E (sum t ks) h = tt
+
     moves : (f : ℕ → ℕ) (l : Line) → Acts l → Acts (renumber f l)
     moves f (constant σ b) h = tt
     moves f (both σ i j) h = tt
@@ -123,11 +124,11 @@ module _ (so : ℕ → Sort) where
     turn-kind n l x (settled b) h = record { is = refl; right = tt }
     turn-kind n l x first h = h .0 .kind
     turn-kind n l x second h = h .1 .0 .kind
-    turn-kind n l x (stays s) h = record
-      { is = shrunk-sort E l
-      ; right = subst (λ (σ : Sort). All (λ j. so j ≡ σ) (parts (shrunk E l))) (sym (shrunk-wants E l))
-          (shrunk-parts E (λ j. so j ≡ wants l) l (all-weaker (Known (wants l)) (λ j. so (E j .to) ≡ wants l) (λ j k. k .goes) (parts l) h))
-      }
+    turn-kind n l x (stays s) h = record {
+      is = shrunk-sort E l;
+      right = subst (λ (σ : Sort). All (λ j. so j ≡ σ) (parts (shrunk E l))) (sym (shrunk-wants E l))
+          (shrunk-parts E (λ j. so j ≡ wants l) l (all-weaker (Known (wants l)) (λ j. so (E j .to) ≡ wants l) (λ j k. k .goes) (parts l) h));
+    }
 
 abbrev sort-of : List Line → ℕ → Sort
 sort-of ls j = sort (outcome ls j .line)
@@ -136,11 +137,11 @@ kinds : (ls : List Line) → Fitting ls → (i : ℕ) → i < length ls → Kind
 kinds ls f = by-turns ls (fitting-ordered ls f) (λ n x. Kind (sort-of ls) (sort (line-at ls n)) (x .line)) (λ n h g x t.
     let l : Line = line-at ls n in
     let known : (j : ℕ) → Part ls n (wants l) j → Known (sort-of ls) (outcome ls) (wants l) j = λ j p.
-          let r = g j (p .before) in
-          let k : Kind (sort-of ls) (wants l) (outcome ls j .line) = subst (λ (σ : Sort). Kind (sort-of ls) σ (outcome ls j .line)) (p .sorted) (r .1) in
-          record { kind = k; goes = ap (λ (y : Outcome). sort (y .line)) (r .0 .stable) ∙ k .is } in
+    let r = g j (p .before) in
+    let k : Kind (sort-of ls) (wants l) (outcome ls j .line) = subst (λ (σ : Sort). Kind (sort-of ls) σ (outcome ls j .line)) (p .sorted) (r .1) in
+    record { kind = k; goes = ap (λ (y : Outcome). sort (y .line)) (r .0 .stable) ∙ k .is } in
     turn-kind (sort-of ls) (outcome ls) n l x t
-      (all-weaker (Part ls n (wants l)) (Known (sort-of ls) (outcome ls) (wants l)) known (parts l) (fits-parts ls n l (f n h))))
+    (all-weaker (Part ls n (wants l)) (Known (sort-of ls) (outcome ls) (wants l)) known (parts l) (fits-parts ls n l (f n h))))
 
 -- a line keeps its sort, whatever becomes of it
 pub keeps-sort : (ls : List Line) → Fitting ls → (i : ℕ) → i < length ls → sort (outcome ls i .line) ≡ sort (line-at ls i)
@@ -151,48 +152,48 @@ settle-form F w =
     let ls : List Line = F .lines in
     let o : Ordered ls = fitting-ordered ls (w .lines) in
     let p = placed ls o (F .root) (w .root .before) in
-    record
-      { lines = λ i h.
+    record {
+      lines = λ i h.
           let g : i < length ls = omega (arith, lines-length ls) in
           let q = placed ls o i g in
           let fits : All (Part (lines-of ls) i (wants (outcome ls i .line))) (parts (outcome ls i .line)) =
-                all-weaker (λ j. (j < outcome ls i .to) × (sort-of ls j ≡ wants (outcome ls i .line))) (Part (lines-of ls) i (wants (outcome ls i .line)))
-                  (λ j r. record { before = omega (arith, r .0, q .near); sorted = ap sort (lines-get ls j) ∙ r .1 }) (parts (outcome ls i .line))
-                  (all-both (λ j. j < outcome ls i .to) (λ j. sort-of ls j ≡ wants (outcome ls i .line)) (parts (outcome ls i .line)) (q .below) (kinds ls (w .lines) i g .right)) in
+          all-weaker (λ j. (j < outcome ls i .to) × (sort-of ls j ≡ wants (outcome ls i .line))) (Part (lines-of ls) i (wants (outcome ls i .line)))
+          (λ j r. record { before = omega (arith, r .0, q .near); sorted = ap sort (lines-get ls j) ∙ r .1 }) (parts (outcome ls i .line))
+          (all-both (λ j. j < outcome ls i .to) (λ j. sort-of ls j ≡ wants (outcome ls i .line)) (parts (outcome ls i .line)) (q .below) (kinds ls (w .lines) i g .right)) in
           fits-from (lines-of ls) i (line-at (lines-of ls) i)
-            (settle-lasts Acts acts-last F o (λ j k. fits-acts ls j (line-at ls j) (w .lines j k)) i h)
-            (subst (λ (l : Line). All (Part (lines-of ls) i (wants l)) (parts l)) (sym (lines-get ls i)) fits)
-      ; root = record
-          { before = omega (arith, p .near, w .root .before, lines-length ls)
-          ; sorted = ap sort (lines-get ls (outcome ls (F .root) .to)) ∙ (ap (λ (x : Outcome). sort (x .line)) (p .stable) ∙ (keeps-sort ls (w .lines) (F .root) (w .root .before) ∙ w .root .sorted))
-          }
-      }
+          (settle-lasts Acts acts-last F o (λ j k. fits-acts ls j (line-at ls j) (w .lines j k)) i h)
+          (subst (λ (l : Line). All (Part (lines-of ls) i (wants l)) (parts l)) (sym (lines-get ls i)) fits);
+      root = record {
+        before = omega (arith, p .near, w .root .before, lines-length ls);
+        sorted = ap sort (lines-get ls (outcome ls (F .root) .to)) ∙ (ap (λ (x : Outcome). sort (x .line)) (p .stable) ∙ (keeps-sort ls (w .lines) (F .root) (w .root .before) ∙ w .root .sorted));
+      };
+    }
 
 prune-form : (F : Formula) → Well-formed F → Well-formed (prune F)
 prune-form F w =
     let ls : List Line = F .lines in
     let o : Ordered ls = fitting-ordered ls (w .lines) in
     let moved : (j : ℕ) → j < length ls → kept F j ≡ true → sort (line-at (prune F .lines) (place F j)) ≡ sort (line-at ls j) =
-          λ j h k. ap sort (pruned-get F j h k) ∙ renumber-sort (place F) (line-at ls j) in
+    λ j h k. ap sort (pruned-get F j h k) ∙ renumber-sort (place F) (line-at ls j) in
     let fits : (i : ℕ) → i < length ls → kept F i ≡ true → All (Part (prune F .lines) (place F i) (wants (renumber (place F) (line-at ls i)))) (parts (renumber (place F) (line-at ls i))) =
-          λ i h k. renumber-parts (place F) (Part (prune F .lines) (place F i) (wants (renumber (place F) (line-at ls i)))) (line-at ls i)
-            (all-weaker (λ j. ((kept F j ≡ true) × (j < i)) × Part ls i (wants (line-at ls i)) j) (λ j. Part (prune F .lines) (place F i) (wants (renumber (place F) (line-at ls i))) (place F j))
-              (λ j r. record
-                { before = place-lt F j i (r .0 .1) (r .0 .0)
-                ; sorted = moved j (omega (arith, r .0 .1)) (r .0 .0) ∙ (r .1 .sorted ∙ sym (renumber-wants (place F) (line-at ls i)))
-                })
-              (parts (line-at ls i))
-              (all-both (λ j. (kept F j ≡ true) × (j < i)) (Part ls i (wants (line-at ls i))) (parts (line-at ls i)) (kept-parts F o i h k) (fits-parts ls i (line-at ls i) (w .lines i h)))) in
-    record
-      { lines = λ m h.
+    λ i h k. renumber-parts (place F) (Part (prune F .lines) (place F i) (wants (renumber (place F) (line-at ls i)))) (line-at ls i)
+    (all-weaker (λ j. ((kept F j ≡ true) × (j < i)) × Part ls i (wants (line-at ls i)) j) (λ j. Part (prune F .lines) (place F i) (wants (renumber (place F) (line-at ls i))) (place F j))
+    (λ j r. record {
+      before = place-lt F j i (r .0 .1) (r .0 .0);
+      sorted = moved j (omega (arith, r .0 .1)) (r .0 .0) ∙ (r .1 .sorted ∙ sym (renumber-wants (place F) (line-at ls i)));
+    })
+    (parts (line-at ls i))
+    (all-both (λ j. (kept F j ≡ true) × (j < i)) (Part ls i (wants (line-at ls i))) (parts (line-at ls i)) (kept-parts F o i h k) (fits-parts ls i (line-at ls i) (w .lines i h)))) in
+    record {
+      lines = λ m h.
           fits-from (prune F .lines) m (line-at (prune F .lines) m)
-            (prune-lasts Acts acts-last F (λ j k. fits-acts ls j (line-at ls j) (w .lines j k)) m h)
-            (pruned-each F (λ n l. All (Part (prune F .lines) n (wants l)) (parts l)) fits m h)
-      ; root = record
-          { before = place-within F (F .root) (w .root .before) (kept-root F)
-          ; sorted = moved (F .root) (w .root .before) (kept-root F) ∙ w .root .sorted
-          }
-      }
+          (prune-lasts Acts acts-last F (λ j k. fits-acts ls j (line-at ls j) (w .lines j k)) m h)
+          (pruned-each F (λ n l. All (Part (prune F .lines) n (wants l)) (parts l)) fits m h);
+      root = record {
+        before = place-within F (F .root) (w .root .before) (kept-root F);
+        sorted = moved (F .root) (w .root .before) (kept-root F) ∙ w .root .sorted;
+      };
+    }
 
 pub keeps-form : Keeps-form-law
 keeps-form F w = prune-form (settle F) (settle-form F w)
@@ -220,10 +221,12 @@ bounds-last m = record { settles = λ σ b. tt; shrinks = shrinks; moves = moves
     shrinks E (non σ i) h = tt
     shrinks E (step a ms hs) h = tt
     shrinks E (sum t ks) h =
-        let open-ones : List Term = kept-by (λ k. is-neither (tone-of E (k .node))) ks in
-        (all-map (λ k. 1 ≤ k .coefficient) (retarget (λ j. E j .to)) open-ones (all-kept-by (λ k. is-neither (tone-of E (k .node))) (λ k. 1 ≤ k .coefficient) ks (h .0)),
-         omega (arith, retarget-light (λ j. E j .to) open-ones, kept-light (λ k. is-neither (tone-of E (k .node))) ks, h .1),
-         omega (arith, h .2))
+        let open-ones : List Term = kept-by (λ k. is-neither (tone-of E (k .node))) ks in (
+          all-map (λ k. 1 ≤ k .coefficient) (retarget (λ j. E j .to)) open-ones (all-kept-by (λ k. is-neither (tone-of E (k .node))) (λ k. 1 ≤ k .coefficient) ks (h .0)),
+          omega (arith, retarget-light (λ j. E j .to) open-ones, kept-light (λ k. is-neither (tone-of E (k .node))) ks, h .1),
+          omega (arith, h .2),
+        )
+
     moves : (f : ℕ → ℕ) (l : Line) → Bounded m l → Bounded m (renumber f l)
     moves f (constant σ b) h = tt
     moves f (both σ i j) h = tt
@@ -234,5 +237,5 @@ bounds-last m = record { settles = λ σ b. tt; shrinks = shrinks; moves = moves
 pub keeps-bounds : Keeps-bounds-law
 keeps-bounds m F w h =
     all-from-getD (Bounded m) (simplify F .lines) (constant state true)
-      (prune-lasts (Bounded m) (bounds-last m) (settle F)
-        (settle-lasts (Bounded m) (bounds-last m) F (fitting-ordered (F .lines) (w .lines)) (λ i k. all-getD (Bounded m) (F .lines) i (constant state true) k h)))
+    (prune-lasts (Bounded m) (bounds-last m) (settle F)
+    (settle-lasts (Bounded m) (bounds-last m) F (fitting-ordered (F .lines) (w .lines)) (λ i k. all-getD (Bounded m) (F .lines) i (constant state true) k h)))

@@ -2,6 +2,7 @@ pub mod Lists
 pub mod Outcomes
 pub mod Prune
 pub mod Forms
+pub mod Reached
 pub mod Truths
 pub mod Keeps
 pub mod Settled

@@ -61,8 +61,7 @@ module _ {X Y : Type 0} (d : Y) (f : ℕ → (ℕ → Y) → X → Y) where
 
   -- if only values before it count, each is made from all the values
   module _ (Below : ℕ → X → Type 0)
-    (local : (n : ℕ) (T T′ : ℕ → Y) (x : X) → ((j : ℕ) → j < n → T j ≡ T′ j) → Below n x → f n T x ≡ f n T′ x) (e : X) where
-
+      (local : (n : ℕ) (T T′ : ℕ → Y) (x : X) → ((j : ℕ) → j < n → T j ≡ T′ j) → Below n x → f n T x ≡ f n T′ x) (e : X) where
     pub grown-at : (acc : List Y) (xs : List X) (k n : ℕ) → n ≡ length acc + k → k < length xs → Below n (getD xs k e)
         → getD (folded grown acc xs) n d ≡ f n (λ j. getD (folded grown acc xs) j d) (getD xs k e)
     grown-at acc [] k n s h b = absurd (not-suc-le-zero h)
@@ -71,9 +70,9 @@ module _ {X Y : Type 0} (d : Y) (f : ℕ → (ℕ → Y) → X → Y) where
         let all : ℕ → Y = λ j. getD (folded grown acc (x ∷ xs)) j d in
         let q : n ≡ length acc = omega arith in
         let p : all (length acc) ≡ v =
-              grown-keeps (grown acc x) xs (length acc) (omega (arith, length-push acc v)) ∙ getD-push acc v d (length acc) refl in
+        grown-keeps (grown acc x) xs (length acc) (omega (arith, length-push acc v)) ∙ getD-push acc v d (length acc) refl in
         let r : v ≡ f (length acc) all x =
-              local (length acc) (λ j. getD acc j d) all x (λ j g. sym (grown-keeps acc (x ∷ xs) j g)) (subst (λ (m : ℕ). Below m x) q b) in
+        local (length acc) (λ j. getD acc j d) all x (λ j g. sym (grown-keeps acc (x ∷ xs) j g)) (subst (λ (m : ℕ). Below m x) q b) in
         subst (λ (m : ℕ). all m ≡ f m all x) (sym q) (p ∙ r)
     grown-at acc (x ∷ xs) (suc k) n s h b =
         grown-at (grown acc x) xs k n (omega (arith, length-push acc (f (length acc) (λ j. getD acc j d) x))) (le-of-suc-le-suc h) b

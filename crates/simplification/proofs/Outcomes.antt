@@ -21,26 +21,26 @@ module _ (E E′ : ℕ → Outcome) where
   left-same : (ds : List ℕ) → All (λ j. E j ≡ E′ j) ds → alternatives-left E ds ≡ alternatives-left E′ ds
   left-same ds h =
       map-kept-same (λ d. E d .to) (λ d. E′ d .to) (λ d. not (is-no (tone-of E d))) (λ d. not (is-no (tone-of E′ d))) ds
-        (all-weaker (λ j. E j ≡ E′ j) (λ d. (not (is-no (tone-of E d)) ≡ not (is-no (tone-of E′ d))) × (E d .to ≡ E′ d .to))
-          (λ d e. (ap (λ (o : Outcome). not (is-no (tone (o .line)))) e, ap (λ (o : Outcome). o .to) e)) ds h)
+      (all-weaker (λ j. E j ≡ E′ j) (λ d. (not (is-no (tone-of E d)) ≡ not (is-no (tone-of E′ d))) × (E d .to ≡ E′ d .to))
+      (λ d e. (ap (λ (o : Outcome). not (is-no (tone (o .line)))) e, ap (λ (o : Outcome). o .to) e)) ds h)
 
   has-yes-same : (ds : List ℕ) → All (λ j. E j ≡ E′ j) ds → has-yes E ds ≡ has-yes E′ ds
   has-yes-same ds h =
       any-same (λ d. is-yes (tone-of E d)) (λ d. is-yes (tone-of E′ d)) ds
-        (all-weaker (λ j. E j ≡ E′ j) (λ d. is-yes (tone-of E d) ≡ is-yes (tone-of E′ d)) (λ d e. ap (λ (o : Outcome). is-yes (tone (o .line))) e) ds h)
+      (all-weaker (λ j. E j ≡ E′ j) (λ d. is-yes (tone-of E d) ≡ is-yes (tone-of E′ d)) (λ d e. ap (λ (o : Outcome). is-yes (tone (o .line))) e) ds h)
 
   terms-same : (ks : List Term) → All (λ k. E (k .node) ≡ E′ (k .node)) ks → terms-left E ks ≡ terms-left E′ ks
   terms-same ks h =
       map-kept-same (retarget (λ j. E j .to)) (retarget (λ j. E′ j .to)) (λ k. is-neither (tone-of E (k .node))) (λ k. is-neither (tone-of E′ (k .node))) ks
-        (all-weaker (λ k. E (k .node) ≡ E′ (k .node))
-          (λ k. (is-neither (tone-of E (k .node)) ≡ is-neither (tone-of E′ (k .node))) × (retarget (λ j. E j .to) k ≡ retarget (λ j. E′ j .to) k))
-          (λ k e. (ap (λ (o : Outcome). is-neither (tone (o .line))) e, λ i. record { coefficient = k .coefficient; node = e i .to })) ks h)
+      (all-weaker (λ k. E (k .node) ≡ E′ (k .node))
+      (λ k. (is-neither (tone-of E (k .node)) ≡ is-neither (tone-of E′ (k .node))) × (retarget (λ j. E j .to) k ≡ retarget (λ j. E′ j .to) k))
+      (λ k e. (ap (λ (o : Outcome). is-neither (tone (o .line))) e, λ i. record { coefficient = k .coefficient; node = e i .to })) ks h)
 
   yes-part-same : (ks : List Term) → All (λ k. E (k .node) ≡ E′ (k .node)) ks → yes-part E ks ≡ yes-part E′ ks
   yes-part-same ks h =
       ap coefficients (kept-same (λ k. is-yes (tone-of E (k .node))) (λ k. is-yes (tone-of E′ (k .node))) ks
-        (all-weaker (λ k. E (k .node) ≡ E′ (k .node)) (λ k. is-yes (tone-of E (k .node)) ≡ is-yes (tone-of E′ (k .node)))
-          (λ k e. ap (λ (o : Outcome). is-yes (tone (o .line))) e) ks h))
+      (all-weaker (λ k. E (k .node) ≡ E′ (k .node)) (λ k. is-yes (tone-of E (k .node)) ≡ is-yes (tone-of E′ (k .node)))
+      (λ k e. ap (λ (o : Outcome). is-yes (tone (o .line))) e) ks h))
 
   pub became-same : (n : ℕ) (l : Line) → All (λ j. E j ≡ E′ j) (parts l) → became n E l ≡ became n E′ l
   became-same n (constant σ b) h = refl
@@ -75,8 +75,8 @@ outcome ls j = getD (outcomes ls) j blank
 pub outcome-at : (ls : List Line) → Ordered ls → (i : ℕ) → i < length ls → outcome ls i ≡ became i (outcome ls) (line-at ls i)
 outcome-at ls o i h =
     grown-at blank became (λ n l. All (λ j. j < n) (parts l))
-      (λ n T T′ l same b. became-same T T′ n l (all-weaker (λ j. j < n) (λ j. T j ≡ T′ j) same (parts l) b))
-      (constant state true) [] ls i i (omega arith) h (o i h)
+    (λ n T T′ l same b. became-same T T′ n l (all-weaker (λ j. j < n) (λ j. T j ≡ T′ j) same (parts l) b))
+    (constant state true) [] ls i i (omega arith) h (o i h)
 
 -- a line with what is left of its parts
 abbrev pub shrunk : (ℕ → Outcome) → Line → Line
@@ -158,12 +158,12 @@ module _ (E : ℕ → Outcome) where
   shrunk-parts P (non σ i) h = h
   shrunk-parts P (step a ms hs) h =
       all-append P (alternatives-left E ms) (alternatives-left E hs)
-        (left-all P ms (all-front (λ j. P (E j .to)) ms hs h)) (left-all P hs (all-back (λ j. P (E j .to)) ms hs h))
+      (left-all P ms (all-front (λ j. P (E j .to)) ms hs h)) (left-all P hs (all-back (λ j. P (E j .to)) ms hs h))
   shrunk-parts P (sum t ks) h =
       let open-ones : List Term = kept-by (λ k. is-neither (tone-of E (k .node))) ks in
       all-map P (λ k. k .node) (terms-left E ks)
-        (all-map (λ k. P (k .node)) (retarget (λ j. E j .to)) open-ones
-          (all-kept-by (λ k. is-neither (tone-of E (k .node))) (λ k. P (E (k .node) .to)) ks (all-of-map (λ j. P (E j .to)) (λ k. k .node) ks h)))
+      (all-map (λ k. P (k .node)) (retarget (λ j. E j .to)) open-ones
+      (all-kept-by (λ k. is-neither (tone-of E (k .node))) (λ k. P (E (k .node) .to)) ks (all-of-map (λ j. P (E j .to)) (λ k. k .node) ks h)))
 
   pub shrunk-sort : (l : Line) → sort (shrunk E l) ≡ sort l
   shrunk-sort (constant σ b) = refl
@@ -193,18 +193,18 @@ module _ (E : ℕ → Outcome) where
   turn-placed n l o (settled b) h f e = record { near = omega arith; stable = e; below = tt }
   turn-placed n l o (first {i = i}) h f e = later i n (E i) (h .0) (f i (h .0))
   turn-placed n l o (second {j = j}) h f e = later j n (E j) (h .1 .0) (f j (h .1 .0))
-  turn-placed n l o (stays s) h f e = record
-    { near = omega arith
-    ; stable = e
-    ; below = shrunk-parts E (λ j. j < n) l (all-weaker (λ j. j < n) (λ j. E j .to < n) (λ j k. omega (arith, f j k .near)) (parts l) h)
-    }
+  turn-placed n l o (stays s) h f e = record {
+    near = omega arith;
+    stable = e;
+    below = shrunk-parts E (λ j. j < n) l (all-weaker (λ j. j < n) (λ j. E j .to < n) (λ j k. omega (arith, f j k .near)) (parts l) h);
+  }
 
 module _ (ls : List Line) (o : Ordered ls) where
   pub placed : (i : ℕ) → i < length ls → Placed (outcome ls) i (outcome ls i)
   placed = strong (λ i. i < length ls → Placed (outcome ls) i (outcome ls i)) (λ n f h.
       let e = outcome-at ls o n h in
       subst (Placed (outcome ls) n) (sym e)
-        (turn-placed (outcome ls) n (line-at ls n) (became n (outcome ls) (line-at ls n)) (became-turns n (outcome ls) (line-at ls n)) (o n h) (λ j k. f j k (omega arith)) e))
+      (turn-placed (outcome ls) n (line-at ls n) (became n (outcome ls) (line-at ls n)) (became-turns n (outcome ls) (line-at ls n)) (o n h) (λ j k. f j k (omega arith)) e))
 
   -- what holds of what becomes of a line if it holds of what became of its parts
   pub by-turns : (P : ℕ → Outcome → Type 0)
@@ -212,7 +212,7 @@ module _ (ls : List Line) (o : Ordered ls) where
       → (i : ℕ) → i < length ls → P i (outcome ls i)
   by-turns P g = strong (λ i. i < length ls → P i (outcome ls i)) (λ n f h.
       subst (P n) (sym (outcome-at ls o n h))
-        (g n h (λ j k. (placed j (omega arith), f j k (omega arith))) (became n (outcome ls) (line-at ls n)) (became-turns n (outcome ls) (line-at ls n))))
+      (g n h (λ j k. (placed j (omega arith), f j k (omega arith))) (became n (outcome ls) (line-at ls n)) (became-turns n (outcome ls) (line-at ls n))))
 
 -- the lines of what became
 abbrev pub lines-of : List Line → List Line
@@ -228,4 +228,4 @@ pub lines-ordered : (ls : List Line) → Ordered ls → Ordered (lines-of ls)
 lines-ordered ls o i h =
     let p = placed ls o i (omega (arith, lines-length ls)) in
     subst (λ (l : Line). All (λ j. j < i) (parts l)) (sym (lines-get ls i))
-      (all-weaker (λ j. j < outcome ls i .to) (λ j. j < i) (λ j k. omega (arith, p .near)) (parts (outcome ls i .line)) (p .below))
+    (all-weaker (λ j. j < outcome ls i .to) (λ j. j < i) (λ j k. omega (arith, p .near)) (parts (outcome ls i .line)) (p .below))

@@ -32,10 +32,11 @@ member-back j xs ys h = member-append j xs ys ∙ (ap (λ (b : Bool). member j x
 
 member-front : (xs ys : List ℕ) → All (λ j. member j (xs ++ ys) ≡ true) xs
 member-front [] ys = tt
-member-front (x ∷ xs) ys =
-    (ap (λ (b : Bool). b || member x (xs ++ ys)) (eq-eqb x x refl),
-     all-weaker (λ j. member j (xs ++ ys) ≡ true) (λ j. member j (x ∷ (xs ++ ys)) ≡ true)
-       (λ j h. ap (λ (b : Bool). eqb x j || b) h ∙ or-true (eqb x j)) xs (member-front xs ys))
+member-front (x ∷ xs) ys = (
+  ap (λ (b : Bool). b || member x (xs ++ ys)) (eq-eqb x x refl),
+  all-weaker (λ j. member j (xs ++ ys) ≡ true) (λ j. member j (x ∷ (xs ++ ys)) ≡ true)
+      (λ j h. ap (λ (b : Bool). eqb x j || b) h ∙ or-true (eqb x j)) xs (member-front xs ys),
+)
 
 member-above : (m : ℕ) (xs : List ℕ) → All (λ j. j < m) xs → member m xs ≡ false
 member-above m [] h = refl
@@ -66,15 +67,18 @@ reached-closed i (l ∷ ls) r o k n s g h =
   where
     later : List ℕ
     later = reached (suc i) ls r
+
     away : (b : Bool) → member n (cond b (parts l ++ later) later) ≡ true → member n later ≡ true
     away true q =
         let p : member n (parts l) ≡ false =
-              member-above n (parts l) (all-weaker (λ j. j < i) (λ j. j < n) (λ j u. omega arith) (parts l) (o 0 i (omega arith) (omega arith))) in
+        member-above n (parts l) (all-weaker (λ j. j < i) (λ j. j < n) (λ j u. omega arith) (parts l) (o 0 i (omega arith) (omega arith))) in
         sym (member-append n (parts l) later ∙ ap (λ (x : Bool). x || member n later) p) ∙ q
     away false q = q
+
     wider : (b : Bool) (j : ℕ) → member j later ≡ true → member j (cond b (parts l ++ later) later) ≡ true
     wider true j q = member-back j (parts l) later q
     wider false j q = q
+
     go : (k : ℕ) → n ≡ i + k → k < length (l ∷ ls) → (b : Bool) → member i later ≡ b → member n (cond b (parts l ++ later) later) ≡ true
         → ((k n : ℕ) → n ≡ suc i + k → k < length ls → member n later ≡ true → All (λ j. member j later ≡ true) (parts (line-at ls k)))
         → All (λ j. member j (cond b (parts l ++ later) later) ≡ true) (parts (line-at (l ∷ ls) k))
@@ -84,7 +88,7 @@ reached-closed i (l ∷ ls) r o k n s g h =
         absurd (false≢true (sym q ∙ subst (λ (x : ℕ). member x later ≡ true) z h))
     go (suc k) s g b q h rec =
         all-weaker (λ j. member j later ≡ true) (λ j. member j (cond b (parts l ++ later) later) ≡ true) (wider b) (parts (line-at ls k))
-          (rec k n (omega arith) (le-of-suc-le-suc g) (away b h))
+        (rec k n (omega arith) (le-of-suc-le-suc g) (away b h))
 
 -- what holds of the root, and goes over from lines to their parts, holds of all that is reached
 reached-only : (P : ℕ → Type 0) (i : ℕ) (ls : List Line) (r : List ℕ) → All P r
@@ -95,6 +99,7 @@ reached-only P i (l ∷ ls) r h g =
   where
     later : List ℕ
     later = reached (suc i) ls r
+
     go : (b : Bool) → member i later ≡ b → All P later → All P (cond b (parts l ++ later) later)
     go true q a = all-append P (parts l) later (g 0 i (omega arith) (omega arith) (member-get P later i a q)) a
     go false q a = a
@@ -103,7 +108,7 @@ pub kept-only : (P : ℕ → Type 0) (F : Formula) → P (F .root) → ((i : ℕ
     → (i : ℕ) → kept F i ≡ true → P i
 kept-only P F h g i k =
     member-get P (reached 0 (F .lines) (F .root ∷ [])) i
-      (reached-only P 0 (F .lines) (F .root ∷ []) (h, tt) (λ k n s u p. let q : n ≡ k = omega arith in g k u (subst P q p))) k
+    (reached-only P 0 (F .lines) (F .root ∷ []) (h, tt) (λ k n s u p. let q : n ≡ k = omega arith in g k u (subst P q p))) k
 
 -- renumbering
 module _ (keep : ℕ → Bool) where
@@ -142,6 +147,7 @@ module _ (keep : ℕ → Bool) where
     where
       up : ((i : ℕ) × (i < n) × (keep i ≡ true) × (rank keep i ≡ m)) → (i : ℕ) × (i < suc n) × (keep i ≡ true) × (rank keep i ≡ m)
       up r = (r .0, omega (arith, r .1), r .2, r .3)
+
       go : (b : Bool) → keep n ≡ b → m < cond b (suc (rank keep n)) (rank keep n) → (m < rank keep n → (i : ℕ) × (i < n) × (keep i ≡ true) × (rank keep i ≡ m))
           → (m < rank keep n) ⊎ (rank keep n ≤ m) → (i : ℕ) × (i < suc n) × (keep i ≡ true) × (rank keep i ≡ m)
       go b e h rec (inl l) = up (rec l)
@@ -222,17 +228,17 @@ module _ (F : Formula) where
   pruned-each P g m h =
       let r = rank-back (kept F) (length (F .lines)) m (omega (arith, pruned-length)) in
       subst (λ (x : ℕ). P x (line-at (prune F .lines) x)) (r .3)
-        (subst (P (place F (r .0))) (sym (pruned-get (r .0) (r .1) (r .2))) (g (r .0) (r .1) (r .2)))
+      (subst (P (place F (r .0))) (sym (pruned-get (r .0) (r .1) (r .2))) (g (r .0) (r .1) (r .2)))
 
   module _ (o : Ordered (F .lines)) where
     -- the parts of a line that is kept are kept, and stand before it
     pub kept-parts : (i : ℕ) → i < length (F .lines) → kept F i ≡ true → All (λ j. (kept F j ≡ true) × (j < i)) (parts (line-at (F .lines) i))
     kept-parts i h k =
         all-both (λ j. kept F j ≡ true) (λ j. j < i) (parts (line-at (F .lines) i))
-          (reached-closed 0 (F .lines) (F .root ∷ []) (λ k n s g. let q : k ≡ n = omega arith in subst (λ (x : ℕ). All (λ j. j < x) (parts (line-at (F .lines) k))) q (o k g)) i i (omega arith) h k)
-          (o i h)
+        (reached-closed 0 (F .lines) (F .root ∷ []) (λ k n s g. let q : k ≡ n = omega arith in subst (λ (x : ℕ). All (λ j. j < x) (parts (line-at (F .lines) k))) q (o k g)) i i (omega arith) h k)
+        (o i h)
 
     pub pruned-ordered : Ordered (prune F .lines)
     pruned-ordered = pruned-each (λ n l. All (λ j. j < n) (parts l)) (λ i h k.
         renumber-parts (place F) (λ j. j < place F i) (line-at (F .lines) i)
-          (all-weaker (λ j. (kept F j ≡ true) × (j < i)) (λ j. place F j < place F i) (λ j q. place-lt j i (q .1) (q .0)) (parts (line-at (F .lines) i)) (kept-parts i h k)))
+        (all-weaker (λ j. (kept F j ≡ true) × (j < i)) (λ j. place F j < place F i) (λ j q. place-lt j i (q .1) (q .0)) (parts (line-at (F .lines) i)) (kept-parts i h k)))

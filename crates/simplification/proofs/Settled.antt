@@ -45,6 +45,7 @@ module _ (E : ℕ → Outcome) where
     where
       rest : List ℕ
       rest = kept-by (λ d. not (is-no (tone-of E d))) ds
+
       go : (o : Tone) → (Const (tone-of E (E d .to)) → Const o) → (is-yes o || has-yes E ds) ≡ false → (has-yes E ds ≡ false → All (λ j. Const (tone-of E j) → ⊥) (map (λ d. E d .to) rest))
           → All (λ j. Const (tone-of E j) → ⊥) (map (λ d. E d .to) (cond (not (is-no o)) (d ∷ rest) rest))
       go yes f e r = absurd (true≢false e)
@@ -57,6 +58,7 @@ module _ (E : ℕ → Outcome) where
     where
       rest : List Term
       rest = kept-by (λ k. is-neither (tone-of E (k .node))) ks
+
       go : (o : Tone) → (Const (tone-of E (E (k .node) .to)) → Const o) → All (λ j. Const (tone-of E j) → ⊥) (map (λ k. k .node) (map (retarget (λ j. E j .to)) rest))
           → All (λ j. Const (tone-of E j) → ⊥) (map (λ k. k .node) (map (retarget (λ j. E j .to)) (cond (is-neither o) (k ∷ rest) rest)))
       go yes f r = r
@@ -91,8 +93,8 @@ lives : (ls : List Line) → Ordered ls → (i : ℕ) → i < length ls → Live
 lives ls o = by-turns ls o (λ n x. Live (outcome ls) (x .line)) (λ n h f x t.
     let l : Line = line-at ls n in
     turn-live (outcome ls) n l x t
-      (all-weaker (λ j. j < n) (λ j. Live (outcome ls) (outcome ls j .line)) (λ j k. f j k .1) (parts l) (o n h))
-      (all-weaker (λ j. j < n) (λ j. outcome ls (outcome ls j .to) ≡ outcome ls j) (λ j k. f j k .0 .stable) (parts l) (o n h)))
+    (all-weaker (λ j. j < n) (λ j. Live (outcome ls) (outcome ls j .line)) (λ j k. f j k .1) (parts l) (o n h))
+    (all-weaker (λ j. j < n) (λ j. outcome ls (outcome ls j .to) ≡ outcome ls j) (λ j k. f j k .0 .stable) (parts l) (o n h)))
 
 moving-renumber : (f : ℕ → ℕ) (l : Line) → moving (renumber f l) ≡ moving l
 moving-renumber f (constant σ b) = refl
@@ -111,16 +113,17 @@ one-line (x ∷ (y ∷ ys)) l h e = absurd (omega arith)
 prune-alone : (F : Formula) (b : Bool) → F .root < length (F .lines) → line-at (F .lines) (F .root) ≡ constant state b → prune F ≡ only b
 prune-alone F b h e =
     let alone : (i : ℕ) → kept F i ≡ true → i ≡ F .root =
-          kept-only (λ i. i ≡ F .root) F refl (λ i k q. subst (λ (l : Line). All (λ j. j ≡ F .root) (parts l)) (sym (ap (line-at (F .lines)) q ∙ e)) tt) in
+    kept-only (λ i. i ≡ F .root) F refl (λ i k q. subst (λ (l : Line). All (λ j. j ≡ F .root) (parts l)) (sym (ap (line-at (F .lines)) q ∙ e)) tt) in
     let lowest : place F (F .root) ≡ 0 = go (cases-lt 0 (place F (F .root))) alone in
     let long : length (prune F .lines) ≡ 1 = last (cases-lt 1 (length (prune F .lines))) alone lowest in
     let line : line-at (prune F .lines) 0 ≡ constant state b =
-          ap (line-at (prune F .lines)) (sym lowest) ∙ (pruned-get F (F .root) h (kept-root F) ∙ ap (renumber (place F)) e) in
+    ap (line-at (prune F .lines)) (sym lowest) ∙ (pruned-get F (F .root) h (kept-root F) ∙ ap (renumber (place F)) e) in
     λ i. record { lines = one-line (prune F .lines) (constant state b) long line i; root = lowest i }
   where
     go : (0 < place F (F .root)) ⊎ (place F (F .root) ≤ 0) → ((i : ℕ) → kept F i ≡ true → i ≡ F .root) → place F (F .root) ≡ 0
     go (inl p) alone = let r = rank-back (kept F) (F .root) 0 p in absurd (omega (arith, r .1, alone (r .0) (r .2)))
     go (inr p) alone = omega arith
+
     last : (1 < length (prune F .lines)) ⊎ (length (prune F .lines) ≤ 1) → ((i : ℕ) → kept F i ≡ true → i ≡ F .root) → place F (F .root) ≡ 0 → length (prune F .lines) ≡ 1
     last (inl p) alone z =
         let r = rank-back (kept F) (length (F .lines)) 1 (omega (arith, pruned-length F)) in
@@ -142,17 +145,17 @@ settles F w still =
     let G : Formula = settle F in
     let v : Well-formed G = settle-form F w in
     let consts : (i : ℕ) → i < length (G .lines) → kept G i ≡ true → Const (tone-of (outcome ls) i) =
-          strong (λ i. i < length (G .lines) → kept G i ≡ true → Const (tone-of (outcome ls) i)) (λ n f h k.
-            let l : Line = line-at (G .lines) n in
-            let e : l ≡ outcome ls n .line = lines-get ls n in
-            let m : moving l ≡ false =
-                  sym (moving-renumber (place G) l) ∙ (ap moving (sym (pruned-get G n h k)) ∙ still (place G n) (place-within G n h k)) in
-            let p : All (λ j. Const (tone-of (outcome ls) j)) (parts l) =
-                  all-weaker (λ j. (kept G j ≡ true) × (j < n)) (λ j. Const (tone-of (outcome ls) j)) (λ j x. f j (x .1) (omega (arith, x .1)) (x .0)) (parts l)
-                    (kept-parts G (lines-ordered ls o) n h k) in
-            subst (λ (x : Line). Const (tone x)) e (subst (Live (outcome ls)) (sym e) (lives ls o n (omega (arith, lines-length ls))) m p)) in
+    strong (λ i. i < length (G .lines) → kept G i ≡ true → Const (tone-of (outcome ls) i)) (λ n f h k.
+    let l : Line = line-at (G .lines) n in
+    let e : l ≡ outcome ls n .line = lines-get ls n in
+    let m : moving l ≡ false =
+    sym (moving-renumber (place G) l) ∙ (ap moving (sym (pruned-get G n h k)) ∙ still (place G n) (place-within G n h k)) in
+    let p : All (λ j. Const (tone-of (outcome ls) j)) (parts l) =
+    all-weaker (λ j. (kept G j ≡ true) × (j < n)) (λ j. Const (tone-of (outcome ls) j)) (λ j x. f j (x .1) (omega (arith, x .1)) (x .0)) (parts l)
+    (kept-parts G (lines-ordered ls o) n h k) in
+    subst (λ (x : Line). Const (tone x)) e (subst (Live (outcome ls)) (sym e) (lives ls o n (omega (arith, lines-length ls))) m p)) in
     let root : Const (tone (line-at (G .lines) (G .root))) =
-          subst (λ (x : Line). Const (tone x)) (sym (lines-get ls (G .root))) (consts (G .root) (v .root .before) (kept-root G)) in
+    subst (λ (x : Line). Const (tone x)) (sym (lines-get ls (G .root))) (consts (G .root) (v .root .before) (kept-root G)) in
     finish G (constant-state (line-at (G .lines) (G .root)) root (v .root .sorted)) (v .root .before)
   where
     finish : (G : Formula) → (line-at (G .lines) (G .root) ≡ constant state true) ⊎ (line-at (G .lines) (G .root) ≡ constant state false) → G .root < length (G .lines)

@@ -25,10 +25,10 @@ use Rattle.simplification.proofs.Outcomes.{wants}
 
 -- the truth of a line from the truths of the lines before it
 abbrev pub sees : Meaning → (ℕ → Truth) → Line → Truth
-sees S T l = record
-  { at = λ s. holds-at S (λ j. T j .at) (λ j. T j .of) l s
-  ; of = λ mv. holds-of S (λ j. T j .at) (λ j. T j .of) l mv
-  }
+sees S T l = record {
+  at = λ s. holds-at S (λ j. T j .at) (λ j. T j .of) l s;
+  of = λ mv. holds-of S (λ j. T j .at) (λ j. T j .of) l mv;
+}
 
 -- two truths of one sort agree: in every state, or of every move whose weights add up to the mass
 abbrev pub Agree : Meaning → Sort → Truth → Truth → Type 0
@@ -107,10 +107,10 @@ module _ (S : Meaning) (g : Weighed S) (T U : ℕ → Truth) (f : ℕ → ℕ) w
   renumber-agrees (non dist i) h = λ mv w. ap not (h .0 mv w)
   renumber-agrees (step a ms hs) h = λ s.
       ap₂ _||_
-        (any-same (λ mv. any (λ d. T d .of mv) ms) (λ mv. any (λ d. U d .of mv) (map f ms)) (S .moves s a)
-          (all-weaker (Whole S) (λ mv. any (λ d. T d .of mv) ms ≡ any (λ d. U d .of mv) (map f ms))
-            (λ mv w. moved-any mv w ms (all-front (λ j. Agree S dist (T j) (U (f j))) ms hs h)) (S .moves s a) (g .whole s a)))
-        (moved-any (point S s) (omega arith) hs (all-back (λ j. Agree S dist (T j) (U (f j))) ms hs h))
+      (any-same (λ mv. any (λ d. T d .of mv) ms) (λ mv. any (λ d. U d .of mv) (map f ms)) (S .moves s a)
+      (all-weaker (Whole S) (λ mv. any (λ d. T d .of mv) ms ≡ any (λ d. U d .of mv) (map f ms))
+      (λ mv w. moved-any mv w ms (all-front (λ j. Agree S dist (T j) (U (f j))) ms hs h)) (S .moves s a) (g .whole s a)))
+      (moved-any (point S s) (omega arith) hs (all-back (λ j. Agree S dist (T j) (U (f j))) ms hs h))
   renumber-agrees (sum t ks) h = λ mv w.
       ap (leb (t * S .mass)) (moved-total mv ks (all-of-map (λ j. Agree S state (T j) (U (f j))) (λ k. k .node) ks h))
 
@@ -203,6 +203,7 @@ module _ (S : Meaning) (g : Weighed S) (T T′ : ℕ → Truth) (E : ℕ → Out
       where
         rest : List ℕ
         rest = kept-by (λ d. not (is-no (tone-of E d))) ds
+
         go : (o : Tone) → Toned o (T d .of mv) → any (λ d. T d .of mv) ds ≡ any (λ d. T′ d .of mv) (map (λ d. E d .to) rest)
             → any (λ d. T d .of mv) (d ∷ ds) ≡ any (λ d. T′ d .of mv) (map (λ d. E d .to) (cond (not (is-no o)) (d ∷ rest) rest))
         go yes x e = ap₂ _||_ (h .0 .there mv w) e
@@ -235,9 +236,9 @@ module _ (S : Meaning) (g : Weighed S) (T T′ : ℕ → Truth) (E : ℕ → Out
       ∙ or-true (any (λ mv. any (λ d. T d .of mv) ms) (S .moves s a))
   step-agrees a ms hs hm hh false e s =
       ap₂ _||_
-        (any-same (λ mv. any (λ d. T d .of mv) ms) (λ mv. any (λ d. T′ d .of mv) (alternatives-left E ms)) (S .moves s a)
-          (all-weaker (Whole S) (λ mv. any (λ d. T d .of mv) ms ≡ any (λ d. T′ d .of mv) (alternatives-left E ms)) (λ mv w. left-any mv w ms hm) (S .moves s a) (g .whole s a)))
-        (left-any (point S s) (omega arith) hs hh)
+      (any-same (λ mv. any (λ d. T d .of mv) ms) (λ mv. any (λ d. T′ d .of mv) (alternatives-left E ms)) (S .moves s a)
+      (all-weaker (Whole S) (λ mv. any (λ d. T d .of mv) ms ≡ any (λ d. T′ d .of mv) (alternatives-left E ms)) (λ mv w. left-any mv w ms hm) (S .moves s a) (g .whole s a)))
+      (left-any (point S s) (omega arith) hs hh)
       ∙ step-line-at a (alternatives-left E ms) (alternatives-left E hs) s
 
   -- a sum
@@ -249,8 +250,10 @@ module _ (S : Meaning) (g : Weighed S) (T T′ : ℕ → Truth) (E : ℕ → Out
       where
         ys : List Term
         ys = kept-by (λ k. is-yes (tone-of E (k .node))) ks
+
         rest : List Term
         rest = kept-by (λ k. is-neither (tone-of E (k .node))) ks
+
         go : (o : Tone) → ((s : ℕ) → Toned o (T (k .node) .at s)) → total (λ j. T j .at) ks mv ≡ coefficients ys * S .mass + total (λ j. T′ j .at) (map (retarget (λ j. E j .to)) rest) mv
             → total (λ j. T j .at) (k ∷ ks) mv
             ≡ coefficients (cond (is-yes o) (k ∷ ys) ys) * S .mass + total (λ j. T′ j .at) (map (retarget (λ j. E j .to)) (cond (is-neither o) (k ∷ rest) rest)) mv
@@ -263,7 +266,7 @@ module _ (S : Meaning) (g : Weighed S) (T T′ : ℕ → Truth) (E : ℕ → Out
             omega (arith, total-cons (λ j. T j .at) k ks mv)
         go neither x e =
             let c : k .coefficient * weigh (T (k .node) .at) mv ≡ k .coefficient * weigh (T′ (E (k .node) .to) .at) mv =
-                  ap (λ (n : ℕ). k .coefficient * n) (weigh-same (T (k .node) .at) (T′ (E (k .node) .to) .at) (h .0 .there) mv) in
+            ap (λ (n : ℕ). k .coefficient * n) (weigh-same (T (k .node) .at) (T′ (E (k .node) .to) .at) (h .0 .there) mv) in
             omega (arith, total-cons (λ j. T j .at) k ks mv, total-cons (λ j. T′ j .at) (retarget (λ j. E j .to) k) (map (retarget (λ j. E j .to)) rest) mv)
 
     sum-line-of : (t : ℕ) (ks : List Term) (b c : Bool) → eqb t 0 ≡ b → ltb (coefficients ks) t ≡ c
@@ -273,7 +276,7 @@ module _ (S : Meaning) (g : Weighed S) (T T′ : ℕ → Truth) (E : ℕ → Out
         le-leb (t * S .mass) (total (λ j. T′ j .at) ks mv) (omega arith)
     sum-line-of t ks false true e f =
         lt-leb (t * S .mass) (total (λ j. T′ j .at) ks mv)
-          (omega (arith, total-le (S .mass) (λ j. T′ j .at) mv w ks, mul-le-mul-right (S .mass) (ltb-true (coefficients ks) t f), g .heavy))
+        (omega (arith, total-le (S .mass) (λ j. T′ j .at) mv w ks, mul-le-mul-right (S .mass) (ltb-true (coefficients ks) t f), g .heavy))
     sum-line-of t ks false false e f = refl
 
   pub became-agrees : (n : ℕ) (l : Line) → All (Fit (wants l)) (parts l) → Agree S (sort l) (sees S T l) (sees S T′ (became n E l .line))
@@ -281,10 +284,10 @@ module _ (S : Meaning) (g : Weighed S) (T T′ : ℕ → Truth) (E : ℕ → Out
   became-agrees n (constant dist b) h = λ mv w. refl
   became-agrees n (both state i j) h = λ s.
       both-value (λ l. sees S T′ l .at s) state refl refl n (tone-of E i) (tone-of E j) (E i) (E j) (T i .at s) (T j .at s)
-        (at-part i (h .0) s) (at-part j (h .1 .0) s) (h .0 .same s) (h .1 .0 .same s) (ap₂ _&&_ (h .0 .there s) (h .1 .0 .there s))
+      (at-part i (h .0) s) (at-part j (h .1 .0) s) (h .0 .same s) (h .1 .0 .same s) (ap₂ _&&_ (h .0 .there s) (h .1 .0 .there s))
   became-agrees n (both dist i j) h = λ mv w.
       both-value (λ l. sees S T′ l .of mv) dist refl refl n (tone-of E i) (tone-of E j) (E i) (E j) (T i .of mv) (T j .of mv)
-        (of-part i (h .0) mv w) (of-part j (h .1 .0) mv w) (h .0 .same mv w) (h .1 .0 .same mv w) (ap₂ _&&_ (h .0 .there mv w) (h .1 .0 .there mv w))
+      (of-part i (h .0) mv w) (of-part j (h .1 .0) mv w) (h .0 .same mv w) (h .1 .0 .same mv w) (ap₂ _&&_ (h .0 .there mv w) (h .1 .0 .there mv w))
   became-agrees n (non state i) h = λ s.
       non-value (λ l. sees S T′ l .at s) state refl refl (tone-of E i) (E i .to) (T i .at s) (at-part i (h .0) s) (ap not (h .0 .there s))
   became-agrees n (non dist i) h = λ mv w.

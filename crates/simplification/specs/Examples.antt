@@ -26,12 +26,12 @@ here-zero t = formula (sum t [] ∷ step 0 [] (0 ∷ []) ∷ []) 1
 -- else stays, and goes back on action 1
 abbrev pub removed : Formula
 removed = formula
-  ( constant dist true ∷ constant dist true ∷ constant dist true ∷ constant dist true
-  ∷ step 1 (0 ∷ []) [] ∷ step 1 (1 ∷ []) (3 ∷ [])
-  ∷ sum 937000 (term 1000000 4 ∷ []) ∷ sum 937000 (term 1000000 5 ∷ [])
-  ∷ sum 937000 (term 750000 5 ∷ term 250000 4 ∷ []) ∷ sum 937000 (term 1000000 4 ∷ [])
-  ∷ step 0 (8 ∷ []) [] ∷ step 0 [] [] ∷ []
-  ) 10
+    (constant dist true ∷ constant dist true ∷ constant dist true ∷ constant dist true
+    ∷ step 1 (0 ∷ []) [] ∷ step 1 (1 ∷ []) (3 ∷ [])
+    ∷ sum 937000 (term 1000000 4 ∷ []) ∷ sum 937000 (term 1000000 5 ∷ [])
+    ∷ sum 937000 (term 750000 5 ∷ term 250000 4 ∷ []) ∷ sum 937000 (term 1000000 4 ∷ [])
+    ∷ step 0 (8 ∷ []) [] ∷ step 0 [] [] ∷ []
+    ) 10
 
 -- an and with a yes is the other part, also behind another such and, and also for the root
 abbrev pub alias : Formula
@@ -40,10 +40,10 @@ alias = formula (constant dist true ∷ step 0 (0 ∷ []) [] ∷ constant state 
 -- a sum with yes and no among its terms
 abbrev pub mixed : Formula
 mixed = formula
-  ( constant state true ∷ constant state false ∷ constant dist true ∷ step 1 (2 ∷ []) []
-  ∷ sum 700 (term 562 0 ∷ term 187 1 ∷ term 188 3 ∷ term 63 3 ∷ [])
-  ∷ both dist 4 2 ∷ step 0 (5 ∷ []) [] ∷ []
-  ) 6
+    (constant state true ∷ constant state false ∷ constant dist true ∷ step 1 (2 ∷ []) []
+    ∷ sum 700 (term 562 0 ∷ term 187 1 ∷ term 188 3 ∷ term 63 3 ∷ [])
+    ∷ both dist 4 2 ∷ step 0 (5 ∷ []) [] ∷ []
+    ) 6
 
 -- a yes among the move alternatives stays, as does a sum whose coefficients add up to just the threshold
 abbrev pub close : Formula

@@ -11,8 +11,9 @@ use Rattle.formulas.specs.declared.node.Fills.{Fills}
 use Rattle.formulas.specs.Lines.{state, dist, Line, constant, both, non, step, sum, Formula}
 use Rattle.formulas.specs.Truths.{truths, at-node}
 use Rattle.formulas.specs.Layout.{fills}
+use Rattle.formulas.specs.Satisfaction.{Iff}
 use Rattle.simplification.specs.WellFormed.{Well-formed, Bounded, line-at}
-use Rattle.simplification.specs.Simplify.{simplify}
+use Rattle.simplification.specs.Simplify.{parts, member, kept, simplify}
 
 -- the weights of a move add up to the mass
 abbrev pub Whole : Meaning → Move → Type 0
@@ -39,6 +40,15 @@ Keeps-form-law = (F : Formula) → Well-formed F → Well-formed (simplify F)
 
 abbrev pub Keeps-bounds-law : Type 0
 Keeps-bounds-law = (m : ℕ) (F : Formula) → Well-formed F → All (Bounded m) (F .lines) → All (Bounded m) (simplify F .lines)
+
+-- line j is the root, or a part of a line that the root reaches
+pub data Reach (F : Formula) : ℕ → Type 0 where
+  itself : Reach F (F .root)
+  part : {i j : ℕ} → Reach F i → i < length (F .lines) → member j (parts (line-at (F .lines) i)) ≡ true → Reach F j
+
+-- the lines that are kept are just those that the root reaches
+abbrev pub Reach-law : Type 0
+Reach-law = (F : Formula) → Well-formed F → (i : ℕ) → Iff (kept F i ≡ true) (Reach F i)
 
 -- whether a line is a step with a move alternative
 abbrev pub moving : Line → Bool

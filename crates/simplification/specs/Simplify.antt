@@ -121,10 +121,10 @@ outcomes ls = folded next-outcome [] ls
 
 -- the formula of what became of the lines; where users take another line, a copy of it stands that nobody uses
 abbrev pub settle : Formula → Formula
-settle F = record
-  { lines = map (λ o. o .line) (outcomes (F .lines))
-  ; root = getD (outcomes (F .lines)) (F .root) blank .to
-  }
+settle F = record {
+  lines = map (λ o. o .line) (outcomes (F .lines));
+  root = getD (outcomes (F .lines)) (F .root) blank .to;
+}
 
 -- the numbers of the lines that a line is made of
 abbrev pub parts : Line → List ℕ

@@ -1,7 +1,6 @@
 // Simplification of formulas: what it keeps, and what it comes to.
 use formulas::stands::course_stands;
-
-ghost use Rattle.simplification.specs.Laws.{Weighed-law, Keeps-truth-law, Keeps-form-law, Keeps-bounds-law, Settles-law, Fills-law};
+ghost use Rattle.simplification.specs.Laws.{Weighed-law, Keeps-truth-law, Keeps-form-law, Keeps-bounds-law, Reach-law, Settles-law, Fills-law};
 ghost use Rattle.simplification.specs.Examples.{Worked-examples};
 
 // A simplified formula holds in the same states, of every system that keeps the rules.
@@ -16,6 +15,13 @@ pub fn truth_kept_stands() -> u8
 pub fn form_kept_stands() -> u8
     ensures form { λ _. ⌜ Keeps-form-law ⌝ }
     ensures bounds { λ _. ⌜ Keeps-bounds-law ⌝ }
+{
+    0
+}
+
+// Its lines are those that the root reaches once every line is what it becomes.
+pub fn reach_stands() -> u8
+    ensures { λ _. ⌜ Reach-law ⌝ }
 {
     0
 }
