@@ -7,3 +7,4 @@ pub mod Truths
 pub mod Keeps
 pub mod Settled
 pub mod Fewer
+pub mod InPlace

@@ -155,7 +155,7 @@ module _ (keep : ℕ → Bool) where
       go false e h rec (inr l) = absurd (omega arith)
 
   module _ (f : ℕ → ℕ) where
-    compact-length : (k : ℕ) (ls : List Line) (n : ℕ) → n ≡ k + length ls → length (compact keep f k ls) + rank keep k ≡ rank keep n
+    pub compact-length : (k : ℕ) (ls : List Line) (n : ℕ) → n ≡ k + length ls → length (compact keep f k ls) + rank keep k ≡ rank keep n
     compact-length k [] n s = let e : k ≡ n = omega arith in subst (λ (x : ℕ). 0 + rank keep k ≡ rank keep x) e (omega arith)
     compact-length k (l ∷ ls) n s = go (keep k) refl (compact-length (suc k) ls n (omega arith))
       where
