@@ -1,21 +1,21 @@
 -- A simplified formula has no more lines, terms and alternatives.
-use mathlib.Core.Path.{_≡_, refl, sym, ap, subst, _∙_}
+use mathlib.Core.Path.{_≡_, refl, sym, ap, subst}
 use mathlib.Core.Bool.{Bool, true, false, cond, not}
-use mathlib.Core.List.{List, [], _∷_, _++_, map}
-use Prim.Native.Nat.{ℕ, zero, suc, _+_, _≤_, _<_}
+use mathlib.Core.List.{List, [], _∷_, map}
+use Prim.Native.Nat.{ℕ, suc, _+_, _≤_, _<_}
 use native.Mathlib.Omega.{arith}
-use lib.ListN.{length, getD, length-append}
+use lib.ListN.{length, length-append}
 use Rattle.std.specs.shelf.Lists.{All, kept-by}
 use Rattle.std.proofs.shelf.Elements.{all-weaker}
 use Rattle.std.proofs.shelf.Lists.{length-map}
 use Rattle.std.proofs.shelf.Sums.{length-kept-by, countBy-le-length}
 use Rattle.formulas.specs.declared.node.Term.{Term}
-use Rattle.formulas.specs.Lines.{Sort, state, dist, Line, constant, both, non, step, sum, sort, Formula}
+use Rattle.formulas.specs.Lines.{Sort, Line, constant, both, non, step, sum, sort, Formula}
 use Rattle.formulas.specs.Layout.{terms-in, alternatives-in, term-table, alternative-table}
 use Rattle.simplification.specs.WellFormed.{line-at, Well-formed}
-use Rattle.simplification.specs.Simplify.{parts, Outcome, own, tone-of, is-no, is-neither, alternatives-left, retarget, terms-left, settle, kept, place, renumber, compact, prune, simplify}
-use Rattle.simplification.specs.Laws.{Fewer, Fills-law}
-use Rattle.simplification.proofs.Outcomes.{Ordered, outcome, shrunk, shrunk-parts, Turn, settled, first, second, stays, Placed, placed, by-turns, lines-of, lines-length, lines-get}
+use Rattle.simplification.specs.Simplify.{parts, Outcome, tone-of, is-no, is-neither, alternatives-left, retarget, settle, kept, place, renumber, compact, simplify}
+use Rattle.simplification.specs.Laws.{Fills-law}
+use Rattle.simplification.proofs.Outcomes.{Ordered, outcome, shrunk, shrunk-parts, Turn, settled, first, second, stays, placed, by-turns, lines-length, lines-get}
 use Rattle.simplification.proofs.Prune.{kept-only, rank-small, pruned-length}
 use Rattle.simplification.proofs.Forms.{fitting-ordered}
 

@@ -1,21 +1,21 @@
 -- Simplification keeps a formula well-formed, and its sums within their bounds.
 use mathlib.Core.Path.{_≡_, refl, sym, ap, subst, _∙_}
-use mathlib.Core.Bool.{Bool, true, false, cond, not}
-use mathlib.Core.List.{List, [], _∷_, _++_, map}
-use Prim.Native.Nat.{ℕ, _+_, _-_, _*_, _≤_, _<_}
+use mathlib.Core.Bool.{Bool, true, false, cond}
+use mathlib.Core.List.{List, [], _∷_, map}
+use Prim.Native.Nat.{ℕ, _≤_, _<_}
 use native.Mathlib.Omega.{arith}
-use lib.ListN.{length, getD}
-use Rattle.std.specs.shelf.Lists.{All, kept-by, sumBy}
+use lib.ListN.{length}
+use Rattle.std.specs.shelf.Lists.{All, kept-by}
 use Rattle.std.proofs.shelf.Elements.{all-weaker, all-append, all-map, all-kept-by, all-getD, all-from-getD}
 use Rattle.std.proofs.shelf.Sums.{sumBy-cons}
 use Rattle.formulas.specs.declared.node.Term.{Term}
 use Rattle.formulas.specs.Lines.{Sort, state, dist, Line, constant, both, non, step, sum, sort, Formula}
 use Rattle.formulas.specs.Right.{Below, Formed}
 use Rattle.simplification.specs.WellFormed.{line-at, Part, Fits, Fitting, Well-formed, Bounded}
-use Rattle.simplification.specs.Simplify.{parts, coefficients, Outcome, alternatives-left, is-neither, tone-of, yes-part, terms-left, retarget, settle, kept, place, renumber, prune, simplify}
+use Rattle.simplification.specs.Simplify.{parts, coefficients, Outcome, is-neither, tone-of, retarget, settle, kept, place, renumber, prune, simplify}
 use Rattle.simplification.specs.Laws.{Keeps-form-law, Keeps-bounds-law}
 use Rattle.simplification.proofs.Lists.{all-front, all-back, all-both, all-of-map}
-use Rattle.simplification.proofs.Outcomes.{wants, Ordered, outcome, shrunk, shrunk-parts, shrunk-sort, shrunk-wants, Turn, settled, first, second, stays, Placed, placed, by-turns, lines-of, lines-length, lines-get}
+use Rattle.simplification.proofs.Outcomes.{wants, Ordered, outcome, shrunk, shrunk-parts, shrunk-sort, shrunk-wants, Turn, settled, first, second, stays, placed, by-turns, lines-of, lines-length, lines-get}
 use Rattle.simplification.proofs.Prune.{kept-root, kept-parts, pruned-get, pruned-each, place-lt, place-within, renumber-parts, renumber-sort, renumber-wants}
 
 -- a step's action is one of 32

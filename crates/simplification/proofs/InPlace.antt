@@ -3,18 +3,17 @@ use mathlib.Core.Path.{_≡_, refl, sym, ap, ap₂, subst, _∙_}
 use mathlib.Core.Logic.{_⊎_, inl, inr}
 use mathlib.Core.Bool.{Bool, true, false, cond}
 use mathlib.Core.List.{List, [], _∷_, _++_}
-use Prim.Native.Nat.{ℕ, zero, suc, _+_, _≤_, _<_}
+use Prim.Native.Nat.{ℕ, suc, _+_, _≤_, _<_}
 use native.Mathlib.Omega.{arith}
 use native.Mathlib.Numerals.{add-one}
 use lib.ListN.{length, getD, take, drop, length-take}
-use Rattle.std.specs.shelf.Lists.{All}
 use Rattle.std.proofs.shelf.Elements.{all-weaker}
 use Rattle.std.proofs.shelf.Lists.{take-more, drop-more}
 use Rattle.std.proofs.shelf.Tests.{cases-eq}
 use Rattle.formulas.specs.Lines.{state, Line, constant, Formula}
 use Rattle.simplification.specs.WellFormed.{line-at}
 use Rattle.simplification.specs.Simplify.{parts, Outcome, became, member, reached, kept, rank, place, renumber, compact, prune, settle, simplify}
-use Rattle.simplification.proofs.Outcomes.{Ordered, outcome, outcome-at, became-same, placed, lines-of, lines-length, lines-get}
+use Rattle.simplification.proofs.Outcomes.{Ordered, outcome, outcome-at, became-same, placed, lines-length, lines-get}
 use Rattle.simplification.proofs.Prune.{member-back, compact-length}
 use Rattle.simplification.proofs.Fewer.{kept-fixed}
 
@@ -73,8 +72,8 @@ pub simplify-by : (F : Formula) → Ordered (F .lines) → F .root < length (F .
     → simplify F ≡ prune (record { lines = ls; root = outcome (F .lines) (F .root) .to })
 simplify-by F o h ls s f =
     prune-same (settle F) (record { lines = ls; root = outcome (F .lines) (F .root) .to }) refl (lines-length (F .lines) ∙ sym s) (λ i g k.
-        let u : i < length (F .lines) = omega (arith, lines-length (F .lines)) in
-        lines-get (F .lines) i ∙ sym (f i u (kept-fixed F o h i k)))
+    let u : i < length (F .lines) = omega (arith, lines-length (F .lines)) in
+    lines-get (F .lines) i ∙ sym (f i u (kept-fixed F o h i k)))
 
 -- the first pass, before line i: `to` says where users find the lines so far, and those found at their own place are what they became
 pub record Passed (ls now : List Line) (to : List ℕ) (i : ℕ) : Type 0 where
@@ -115,8 +114,8 @@ module _ (ls : List Line) (o : Ordered ls) (now : List Line) (to : List ℕ) (i 
   passed-more h now′ to′ a b c d = record {
     found = λ j k. at j (cases-eq j i) (λ q. subst (λ (x : ℕ). getD to′ x 0 ≡ outcome ls x .to) (sym q) (a ∙ ap (λ (x : Outcome). x .to) e)) (λ q. b j q ∙ p .found j (omega arith));
     done = λ j k f. at j (cases-eq j i)
-      (λ q. subst (λ (x : ℕ). outcome ls x .to ≡ x → line-at now′ x ≡ outcome ls x .line) (sym q) (λ g. c (ap (λ (x : Outcome). x .to) e ∙ g) ∙ ap (λ (x : Outcome). x .line) e) f)
-      (λ q. d j q ∙ p .done j (omega arith) f);
+        (λ q. subst (λ (x : ℕ). outcome ls x .to ≡ x → line-at now′ x ≡ outcome ls x .line) (sym q) (λ g. c (ap (λ (x : Outcome). x .to) e ∙ g) ∙ ap (λ (x : Outcome). x .line) e) f)
+        (λ q. d j q ∙ p .done j (omega arith) f);
     rest = λ j k. d j (λ q. omega arith) ∙ p .rest j (omega arith);
   }
     where

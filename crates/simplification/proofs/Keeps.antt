@@ -1,14 +1,13 @@
 -- A simplified formula holds in the same states.
-use mathlib.Core.Path.{_≡_, refl, sym, ap, subst, _∙_}
+use mathlib.Core.Path.{_≡_, sym, ap, subst, _∙_}
 use mathlib.Core.Bool.{true}
 use mathlib.Core.List.{List}
 use Prim.Native.Nat.{ℕ, _<_}
 use native.Mathlib.Omega.{arith}
 use lib.ListN.{length, getD}
-use Rattle.std.specs.shelf.Lists.{All}
 use Rattle.std.proofs.shelf.Elements.{all-weaker}
-use Rattle.systems.specs.Meaning.{Meaning, Move, Ruled, Good}
-use Rattle.formulas.specs.Lines.{Sort, state, dist, Line, constant, both, non, step, sum, sort, Formula}
+use Rattle.systems.specs.Meaning.{Meaning, Good}
+use Rattle.formulas.specs.Lines.{Sort, state, Line, sort, Formula}
 use Rattle.formulas.specs.Truths.{Truth, truths, never}
 use Rattle.formulas.specs.Laws.{Course-law}
 use Rattle.simplification.specs.WellFormed.{line-at, Part, Fitting, Well-formed}

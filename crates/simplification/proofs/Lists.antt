@@ -1,8 +1,8 @@
 -- Lists: what holds of each element, tests of some element, and lists that grow by what stands in them so far.
-use mathlib.Core.Path.{_≡_, refl, sym, ap, ap₂, subst, _∙_}
+use mathlib.Core.Path.{_≡_, refl, sym, ap₂, subst, _∙_}
 use mathlib.Core.Bool.{Bool, true, false, cond, _||_}
 use mathlib.Core.List.{List, [], _∷_, _++_, map}
-use Prim.Native.Nat.{ℕ, zero, suc, _+_, _≤_, _<_}
+use Prim.Native.Nat.{ℕ, zero, suc, _+_, _<_}
 use native.Mathlib.Nat.{le-of-suc-le-suc, not-suc-le-zero}
 use native.Mathlib.Omega.{arith}
 use lib.ListN.{length, getD}
@@ -19,10 +19,6 @@ module _ {X : Type 0} (P : X → Type 0) where
   pub all-back : (xs ys : List X) → All P (xs ++ ys) → All P ys
   all-back [] ys h = h
   all-back (x ∷ xs) ys h = all-back xs ys (h .1)
-
-  pub all-fill : ((x : X) → P x) → (xs : List X) → All P xs
-  all-fill f [] = tt
-  all-fill f (x ∷ xs) = (f x, all-fill f xs)
 
   pub all-both : (Q : X → Type 0) (xs : List X) → All P xs → All Q xs → All (λ x. P x × Q x) xs
   all-both Q [] h k = tt

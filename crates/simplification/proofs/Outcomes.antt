@@ -1,8 +1,8 @@
 -- What becomes of lines: it goes by their parts, and every stand-in stands for itself.
 use mathlib.Core.Path.{_≡_, refl, sym, ap, ap₂, subst, _∙_}
-use mathlib.Core.Bool.{Bool, true, false, cond, not, _||_}
+use mathlib.Core.Bool.{Bool, true, false, cond, not}
 use mathlib.Core.List.{List, [], _∷_, _++_, map}
-use Prim.Native.Nat.{ℕ, _+_, _-_, _≤_, _<_}
+use Prim.Native.Nat.{ℕ, _-_, _≤_, _<_}
 use native.Mathlib.Omega.{arith}
 use lib.Dec.{eqb, ltb}
 use lib.ListN.{length, getD, List·getD-map}
@@ -10,9 +10,9 @@ use Rattle.std.specs.shelf.Lists.{All, kept-by}
 use Rattle.std.proofs.shelf.Lists.{length-map}
 use Rattle.std.proofs.shelf.Elements.{all-weaker, all-append, all-map, all-kept-by}
 use Rattle.formulas.specs.declared.node.Term.{Term}
-use Rattle.formulas.specs.Lines.{Sort, state, dist, Line, constant, both, non, step, sum, sort, Formula}
+use Rattle.formulas.specs.Lines.{Sort, state, dist, Line, constant, both, non, step, sum, sort}
 use Rattle.simplification.specs.WellFormed.{line-at}
-use Rattle.simplification.specs.Simplify.{parts, coefficients, Tone, yes, no, neither, tone, tone-of, is-yes, is-no, is-neither, Outcome, own, both-outcome, non-line, step-line, sum-line, alternatives-left, has-yes, retarget, terms-left, yes-part, became, blank, outcomes, settle}
+use Rattle.simplification.specs.Simplify.{parts, coefficients, Tone, yes, no, neither, tone, tone-of, is-yes, is-no, is-neither, Outcome, own, both-outcome, non-line, step-line, sum-line, alternatives-left, has-yes, retarget, terms-left, yes-part, became, blank, outcomes}
 use Rattle.std.proofs.shelf.Tests.{eqb-false, ltb-false}
 use Rattle.simplification.proofs.Lists.{all-front, all-back, all-of-map, any-same, map-kept-same, kept-same, strong, grown-at, grown-length}
 

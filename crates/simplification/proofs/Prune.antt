@@ -7,12 +7,11 @@ use Prim.Native.Nat.{ℕ, zero, suc, _+_, _-_, _≤_, _<_}
 use native.Mathlib.Omega.{arith}
 use native.Mathlib.Nat.{not-suc-le-zero, le-of-suc-le-suc, suc-add}
 use lib.Dec.{eqb}
-use lib.ListN.{length, getD}
+use lib.ListN.{length}
 use Rattle.std.specs.shelf.Lists.{All}
 use Rattle.std.proofs.shelf.Elements.{all-weaker, all-append, all-map}
 use Rattle.std.proofs.shelf.Tests.{eq-eqb, ne-eqb, eqb-true, cases-lt}
-use Rattle.formulas.specs.declared.node.Term.{Term}
-use Rattle.formulas.specs.Lines.{state, dist, Line, constant, both, non, step, sum, sort, Formula}
+use Rattle.formulas.specs.Lines.{Line, constant, both, non, step, sum, sort, Formula}
 use Rattle.simplification.specs.WellFormed.{line-at}
 use Rattle.simplification.specs.Simplify.{parts, member, reached, kept, rank, place, retarget, renumber, compact, prune}
 use Rattle.simplification.proofs.Lists.{all-front, all-back, all-both, all-of-map}
@@ -237,8 +236,3 @@ module _ (F : Formula) where
         all-both (λ j. kept F j ≡ true) (λ j. j < i) (parts (line-at (F .lines) i))
         (reached-closed 0 (F .lines) (F .root ∷ []) (λ k n s g. let q : k ≡ n = omega arith in subst (λ (x : ℕ). All (λ j. j < x) (parts (line-at (F .lines) k))) q (o k g)) i i (omega arith) h k)
         (o i h)
-
-    pub pruned-ordered : Ordered (prune F .lines)
-    pruned-ordered = pruned-each (λ n l. All (λ j. j < n) (parts l)) (λ i h k.
-        renumber-parts (place F) (λ j. j < place F i) (line-at (F .lines) i)
-        (all-weaker (λ j. (kept F j ≡ true) × (j < i)) (λ j. place F j < place F i) (λ j q. place-lt j i (q .1) (q .0)) (parts (line-at (F .lines) i)) (kept-parts i h k)))

@@ -1,21 +1,21 @@
 -- Without move alternatives, a simplified formula is one line, yes or no.
-use mathlib.Core.Path.{_≡_, refl, sym, ap, ap₂, subst, _∙_}
+use mathlib.Core.Path.{_≡_, refl, sym, ap, subst, _∙_}
 use mathlib.Core.Logic.{_⊎_, inl, inr}
 use mathlib.Core.Bool.{Bool, true, false, cond, not, _||_, true≢false}
 use mathlib.Core.List.{List, [], _∷_, _++_, map}
-use Prim.Native.Nat.{ℕ, zero, suc, _-_, _≤_, _<_}
+use Prim.Native.Nat.{ℕ, _-_, _≤_, _<_}
 use native.Mathlib.Omega.{arith}
-use lib.ListN.{length, getD}
+use lib.ListN.{length}
 use Rattle.std.specs.shelf.Lists.{All, kept-by}
 use Rattle.std.proofs.shelf.Elements.{all-weaker}
 use Rattle.std.proofs.shelf.Tests.{cases-lt}
 use Rattle.formulas.specs.declared.node.Term.{Term}
-use Rattle.formulas.specs.Lines.{Sort, state, dist, Line, constant, both, non, step, sum, sort, Formula}
+use Rattle.formulas.specs.Lines.{Sort, state, Line, constant, both, non, step, sum, sort, Formula}
 use Rattle.simplification.specs.WellFormed.{line-at, Well-formed}
-use Rattle.simplification.specs.Simplify.{parts, coefficients, Tone, yes, no, neither, tone, tone-of, is-yes, is-no, is-neither, Outcome, alternatives-left, has-yes, retarget, terms-left, settle, kept, place, renumber, prune, simplify}
-use Rattle.simplification.specs.Laws.{moving, Still, only, Settles-law}
+use Rattle.simplification.specs.Simplify.{parts, coefficients, Tone, yes, no, neither, tone, tone-of, is-yes, is-no, is-neither, Outcome, alternatives-left, has-yes, retarget, terms-left, settle, kept, place, renumber, prune}
+use Rattle.simplification.specs.Laws.{moving, only, Settles-law}
 use Rattle.simplification.proofs.Lists.{all-back, strong}
-use Rattle.simplification.proofs.Outcomes.{Ordered, outcome, shrunk, Stays, Turn, settled, first, second, stays, by-turns, lines-of, lines-length, lines-get, lines-ordered}
+use Rattle.simplification.proofs.Outcomes.{Ordered, outcome, shrunk, Stays, Turn, settled, first, second, stays, by-turns, lines-length, lines-get, lines-ordered}
 use Rattle.simplification.proofs.Prune.{kept-root, kept-parts, kept-only, rank-back, pruned-get, pruned-length, place-within}
 use Rattle.simplification.proofs.Forms.{fitting-ordered, settle-form}
 
@@ -39,50 +39,50 @@ module _ (E : ℕ → Outcome) where
   back j s c = subst (λ (x : Outcome). Const (tone (x .line))) s c
 
   -- what is left of a step's here alternatives and of a sum's terms is neither yes nor no
-  left-open : (ds : List ℕ) → All (λ j. E (E j .to) ≡ E j) ds → has-yes E ds ≡ false → All (λ j. Const (tone-of E j) → ⊥) (alternatives-left E ds)
+  left-open : (ds : List ℕ) → All Stable ds → has-yes E ds ≡ false → All Open (alternatives-left E ds)
   left-open [] h e = tt
   left-open (d ∷ ds) h e = go (tone-of E d) (back d (h .0)) e (left-open ds (h .1))
     where
       rest : List ℕ
       rest = kept-by (λ d. not (is-no (tone-of E d))) ds
 
-      go : (o : Tone) → (Const (tone-of E (E d .to)) → Const o) → (is-yes o || has-yes E ds) ≡ false → (has-yes E ds ≡ false → All (λ j. Const (tone-of E j) → ⊥) (map (λ d. E d .to) rest))
-          → All (λ j. Const (tone-of E j) → ⊥) (map (λ d. E d .to) (cond (not (is-no o)) (d ∷ rest) rest))
+      go : (o : Tone) → (Const (tone-of E (E d .to)) → Const o) → (is-yes o || has-yes E ds) ≡ false → (has-yes E ds ≡ false → All Open (map (λ d. E d .to) rest))
+          → All Open (map (λ d. E d .to) (cond (not (is-no o)) (d ∷ rest) rest))
       go yes f e r = absurd (true≢false e)
       go no f e r = r e
       go neither f e r = (f, r e)
 
-  terms-open : (ks : List Term) → All (λ j. E (E j .to) ≡ E j) (map (λ k. k .node) ks) → All (λ j. Const (tone-of E j) → ⊥) (map (λ k. k .node) (terms-left E ks))
+  terms-open : (ks : List Term) → All Stable (map (λ k. k .node) ks) → All Open (map (λ k. k .node) (terms-left E ks))
   terms-open [] h = tt
   terms-open (k ∷ ks) h = go (tone-of E (k .node)) (back (k .node) (h .0)) (terms-open ks (h .1))
     where
       rest : List Term
       rest = kept-by (λ k. is-neither (tone-of E (k .node))) ks
 
-      go : (o : Tone) → (Const (tone-of E (E (k .node) .to)) → Const o) → All (λ j. Const (tone-of E j) → ⊥) (map (λ k. k .node) (map (retarget (λ j. E j .to)) rest))
-          → All (λ j. Const (tone-of E j) → ⊥) (map (λ k. k .node) (map (retarget (λ j. E j .to)) (cond (is-neither o) (k ∷ rest) rest)))
+      go : (o : Tone) → (Const (tone-of E (E (k .node) .to)) → Const o) → All Open (map (λ k. k .node) (map (retarget (λ j. E j .to)) rest))
+          → All Open (map (λ k. k .node) (map (retarget (λ j. E j .to)) (cond (is-neither o) (k ∷ rest) rest)))
       go yes f r = r
       go no f r = r
       go neither f r = (f, r)
 
-  step-live : (a : ℕ) (ms hs : List ℕ) → (ms ++ hs ≡ [] → ⊥) → All (λ j. Const (tone-of E j) → ⊥) hs → Live (step a ms hs)
+  step-live : (a : ℕ) (ms hs : List ℕ) → (ms ++ hs ≡ [] → ⊥) → All Open hs → Live (step a ms hs)
   step-live a [] [] s o q c = s refl
   step-live a [] (x ∷ hs) s o q c = o .0 (c .0)
   step-live a (m ∷ ms) hs s o q c = absurd (true≢false q)
 
-  sum-live : (t : ℕ) (ks : List Term) → (t ≡ 0 → ⊥) → t ≤ coefficients ks → All (λ j. Const (tone-of E j) → ⊥) (map (λ k. k .node) ks) → Live (sum t ks)
+  sum-live : (t : ℕ) (ks : List Term) → (t ≡ 0 → ⊥) → t ≤ coefficients ks → All Open (map (λ k. k .node) ks) → Live (sum t ks)
   sum-live t [] z e o q c = z (omega arith)
   sum-live t (k ∷ ks) z e o q c = o .0 (c .0)
 
-  stays-live : (l : Line) → Stays E l → All (λ j. E (E j .to) ≡ E j) (parts l) → Live (shrunk E l)
+  stays-live : (l : Line) → Stays E l → All Stable (parts l) → Live (shrunk E l)
   stays-live (constant σ b) s h q c = absurd s
   stays-live (both σ i j) s h q c = subst Const s (back i (h .0) (c .0))
   stays-live (non σ i) s h q c = subst Const s (back i (h .0) (c .0))
   stays-live (step a ms hs) s h q c =
-      step-live a (alternatives-left E ms) (alternatives-left E hs) (s .1) (left-open hs (all-back (λ j. E (E j .to) ≡ E j) ms hs h) (s .0)) q c
+      step-live a (alternatives-left E ms) (alternatives-left E hs) (s .1) (left-open hs (all-back Stable ms hs h) (s .0)) q c
   stays-live (sum t ks) s h q c = sum-live (t - _) (terms-left E ks) (s .0) (s .1) (terms-open ks h) q c
 
-  turn-live : (n : ℕ) (l : Line) (x : Outcome) → Turn n E l x → All (λ j. Live (E j .line)) (parts l) → All (λ j. E (E j .to) ≡ E j) (parts l) → Live (x .line)
+  turn-live : (n : ℕ) (l : Line) (x : Outcome) → Turn n E l x → All (λ j. Live (E j .line)) (parts l) → All Stable (parts l) → Live (x .line)
   turn-live n l x (settled true) h s q c = tt
   turn-live n l x (settled false) h s q c = tt
   turn-live n l x first h s q c = h .0 q c

@@ -2,12 +2,11 @@
 use mathlib.Core.Path.{_≡_, refl, sym, ap, ap₂, subst, _∙_, fun-ext}
 use mathlib.Core.Logic.{_⊎_, inl, inr}
 use mathlib.Core.Bool.{Bool, true, false, cond, not, _&&_, _||_, or-true, and-true, and-false}
-use mathlib.Core.List.{List, [], _∷_, _++_, map}
+use mathlib.Core.List.{List, [], _∷_, map}
 use Prim.Native.Nat.{ℕ, _+_, _-_, _*_, _≤_, _<_}
 use native.Mathlib.Nat.{mul-le-mul-left, mul-le-mul-right}
 use native.Mathlib.Omega.{arith}
 use lib.Dec.{eqb, ltb, leb}
-use lib.ListN.{length, getD}
 use Rattle.std.specs.shelf.Lists.{All, kept-by}
 use Rattle.std.proofs.shelf.Elements.{all-weaker}
 use Rattle.std.proofs.shelf.Sums.{sumBy-cons}
@@ -20,7 +19,7 @@ use Rattle.formulas.specs.Lines.{Sort, state, dist, Line, constant, both, non, 
 use Rattle.formulas.specs.Truths.{Truth, holds-at, holds-of, weigh, total, any}
 use Rattle.simplification.specs.Simplify.{parts, coefficients, Tone, yes, no, neither, tone, tone-of, is-yes, is-no, is-neither, Outcome, both-outcome, non-line, step-line, alternatives-left, has-yes, retarget, terms-left, yes-part, renumber, became}
 use Rattle.simplification.specs.Laws.{Whole, Weighed}
-use Rattle.simplification.proofs.Lists.{all-front, all-back, all-of-map, all-fill, any-same}
+use Rattle.simplification.proofs.Lists.{all-front, all-back, all-of-map, any-same}
 use Rattle.simplification.proofs.Outcomes.{wants}
 
 -- the truth of a line from the truths of the lines before it

@@ -4,7 +4,7 @@ use mathlib.Core.Bool.{true, false}
 use mathlib.Core.List.{List, [], _∷_, map}
 use Prim.Native.Nat.{ℕ}
 use Rattle.formulas.specs.declared.node.Term.{Term}
-use Rattle.formulas.specs.Lines.{state, dist, Line, constant, both, non, step, sum, Formula}
+use Rattle.formulas.specs.Lines.{state, dist, Line, constant, both, step, sum, Formula}
 use Rattle.simplification.specs.Simplify.{simplify}
 use Rattle.simplification.specs.Laws.{only}
 

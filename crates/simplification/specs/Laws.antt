@@ -2,13 +2,13 @@
 use mathlib.Core.Path.{_≡_}
 use mathlib.Core.Logic.{_⊎_}
 use mathlib.Core.Bool.{Bool, true, false}
-use mathlib.Core.List.{List, [], _∷_}
+use mathlib.Core.List.{[], _∷_}
 use Prim.Native.Nat.{ℕ, _≤_, _<_}
 use lib.ListN.{length}
 use Rattle.std.specs.shelf.Lists.{All}
 use Rattle.systems.specs.Meaning.{Meaning, Move, Ruled, total}
 use Rattle.formulas.specs.declared.node.Fills.{Fills}
-use Rattle.formulas.specs.Lines.{state, dist, Line, constant, both, non, step, sum, Formula}
+use Rattle.formulas.specs.Lines.{state, Line, constant, both, non, step, sum, Formula}
 use Rattle.formulas.specs.Truths.{truths, at-node}
 use Rattle.formulas.specs.Layout.{fills}
 use Rattle.formulas.specs.Satisfaction.{Iff}

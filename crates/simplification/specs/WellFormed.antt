@@ -7,6 +7,7 @@ use lib.ListN.{length, getD}
 use Rattle.std.specs.shelf.Lists.{All, sumBy}
 use Rattle.formulas.specs.Lines.{Sort, state, dist, Line, constant, both, non, step, sum, sort, Formula}
 
+-- line i; what stands past the end does not matter
 abbrev pub line-at : List Line → ℕ → Line
 line-at ls i = getD ls i (constant state true)
 
@@ -23,10 +24,11 @@ Fits ls i (non σ j) = Part ls i σ j
 Fits ls i (step a ms hs) = (a < 32) × All (Part ls i dist) ms × All (Part ls i dist) hs
 Fits ls i (sum t ks) = All (λ k. Part ls i state (k .node)) ks
 
+-- every line fits
 abbrev pub Fitting : List Line → Type 0
 Fitting ls = (i : ℕ) → i < length ls → Fits ls i (line-at ls i)
 
--- every line fits, and the root speaks of states
+-- every line fits, and the root speaks of states; tables that hold a formula have such a one
 pub record Well-formed (F : Formula) : Type 0 where
   pub lines : Fitting (F .lines)
   pub root : Part (F .lines) (length (F .lines)) state (F .root)
