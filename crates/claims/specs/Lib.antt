@@ -5,3 +5,6 @@ pub mod Spots
 pub mod Sums
 pub mod Rows
 pub mod Boards
+pub mod WellFormed
+pub mod Quotient
+pub mod Stack
