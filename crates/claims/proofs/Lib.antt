@@ -8,3 +8,8 @@ pub mod Reached
 pub mod Lookups
 pub mod Pastes
 pub mod Judging
+pub mod Lists
+pub mod Countings
+pub mod Planning
+pub mod Needing
+pub mod Laying

@@ -57,7 +57,7 @@ over-pasted front new old =
     let back = sym (drop-drop (length new) n (front ++ rest)) ∙ ap (drop (length new)) (drop-at front rest n refl) ∙ drop-drop (length new) n old ∙ ap (λ k. drop k old) (sym (length-append front new)) in
     ap₂ (λ a r. a ++ (new ++ r)) (take-at front rest n refl) back ∙ sym (append-assoc front new (drop (length (front ++ new)) old))
 
-counting-more : (n : ℕ) → counting 0 (n + 1) ≡ counting 0 n ++ (n ∷ [])
+pub counting-more : (n : ℕ) → counting 0 (n + 1) ≡ counting 0 n ++ (n ∷ [])
 counting-more n =
     sym (map-id (counting 0 (n + 1))) ∙ map-counting-more (λ x. x) 0 n n (omega arith) ∙ ap (λ l. l ++ (n ∷ [])) (map-id (counting 0 n))
 

@@ -8,3 +8,6 @@ pub mod Boards
 pub mod WellFormed
 pub mod Quotient
 pub mod Stack
+pub mod Removals
+pub mod Layings
+pub mod Plans

@@ -12,3 +12,4 @@ pub mod Grammar
 pub mod Faults
 pub mod Reading
 pub mod Spelling
+pub mod Append
