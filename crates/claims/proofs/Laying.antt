@@ -34,8 +34,8 @@ module _ {X : Type 0} where
   fill-extended t [] h = grind arith
   fill-extended t (x ∷ xs) h = fill-extended (appended t x) xs (grind arith) ∙ grind arith
 
-  pub fill-grows : (t : Table X) (xs : List X) → t .fill ≤ 4294967295 → t .fill ≤ extended t xs .fill
-  fill-grows t xs h = let e = fill-extended t xs h in grind arith
+  pub fill-grows : (t u : Table X) (xs : List X) → u ≡ extended t xs → t .fill ≤ 4294967295 → t .fill ≤ u .fill
+  fill-grows t u xs f h = let e = ap (λ (w : Table X). w .fill) f ∙ fill-extended t xs h in grind arith
 
   exact : (t : Table X) (xs : List X) → t .fill + length xs ≤ 4294967295 → extended t xs .fill ≡ t .fill + length xs
   exact t xs h = let e = fill-extended t xs (omega arith) in grind arith
@@ -63,16 +63,16 @@ module _ {X : Type 0} where
 pub laid-more : (s u v : Store) (ls ms ns : List Line) → u ≡ laid s ls → v ≡ laid u ms → ns ≡ ls ++ ms → v ≡ laid s ns
 laid-more s u v ls ms ns e f g = f ∙ ap (λ w. laid w ms) e ∙ sym (folded-append lay s ls ms) ∙ ap (laid s) (sym g)
 
-pub lay-step : (ns ms : Table Node) (as bs cs : Table ℕ) (a : ℕ) (xs ys : List ℕ) (l : Line) → bs ≡ extended as xs → cs ≡ extended bs ys → ms ≡ appended ns (State (Step a (run-between as bs) (run-between bs cs))) → l ≡ step a xs ys → (ts : Table Term) → stored ms ts cs ≡ lay (stored ns ts as) l
-lay-step ns ms as bs cs a xs ys l e f g h ts =
+pub lay-step : (ns ms : Table Node) (ats bs cs : Table ℕ) (a : ℕ) (xs ys : List ℕ) (l : Line) → bs ≡ extended ats xs → cs ≡ extended bs ys → ms ≡ appended ns (State (Step a (run-between ats bs) (run-between bs cs))) → l ≡ step a xs ys → (ts : Table Term) → stored ms ts cs ≡ lay (stored ns ts ats) l
+lay-step ns ms ats bs cs a xs ys l e f g h ts =
     ap₂ (λ m c. stored m ts c)
-      (g ∙ ap₂ (λ b c. appended ns (State (Step a (run-between as b) (run-between b c)))) e (f ∙ ap (λ b. extended b ys) e))
-      (f ∙ ap (λ b. extended b ys) e ∙ sym (folded-append appended as xs ys))
-    ∙ ap (lay (stored ns ts as)) (sym h)
+      (g ∙ ap₂ (λ b c. appended ns (State (Step a (run-between ats b) (run-between b c)))) e (f ∙ ap (λ b. extended b ys) e))
+      (f ∙ ap (λ b. extended b ys) e ∙ sym (folded-append appended ats xs ys))
+    ∙ ap (lay (stored ns ts ats)) (sym h)
 
-pub lay-sum : (ns ms : Table Node) (as bs : Table Term) (t : ℕ) (ks : List Term) → bs ≡ extended as ks → ms ≡ appended ns (Dist (Sum t (run-between as bs))) → (alts : Table ℕ) → stored ms bs alts ≡ lay (stored ns as alts) (sum t ks)
-lay-sum ns ms as bs t ks e g alts =
-    ap₂ (λ m b. stored m b alts) (g ∙ ap (λ b. appended ns (Dist (Sum t (run-between as b)))) e) e
+pub lay-sum : (ns ms : Table Node) (ats bs : Table Term) (t : ℕ) (ks : List Term) → bs ≡ extended ats ks → ms ≡ appended ns (Dist (Sum t (run-between ats bs))) → (alts : Table ℕ) → stored ms bs alts ≡ lay (stored ns ats alts) (sum t ks)
+lay-sum ns ms ats bs t ks e g alts =
+    ap₂ (λ m b. stored m b alts) (g ∙ ap (λ b. appended ns (Dist (Sum t (run-between ats b)))) e) e
 
 -- the three tables of lines
 laid-terms : (s : Store) (ls : List Line) → laid s ls .terms ≡ extended (s .terms) (term-table ls)
@@ -91,23 +91,23 @@ node-is s (constant σ b) h k = refl
 node-is s (both σ i j) h k = refl
 node-is s (non σ i) h k = refl
 node-is s (step a ms hs) h k =
-    let as = s .alternatives in
+    let ats = s .alternatives in
     let both = length-append ms hs in
-    let first : as .fill + length ms ≤ 4294967295 = omega arith in
-    let middle = exact as ms first in
-    let second : extended as ms .fill + length hs ≤ 4294967295 = omega arith in
-    ap₂ (λ m n. State (Step a m n)) (run-exact as ms first) (run-exact (extended as ms) hs second ∙ ap (λ f. run f (length hs)) middle)
+    let first : ats .fill + length ms ≤ 4294967295 = omega arith in
+    let middle = exact ats ms first in
+    let second : extended ats ms .fill + length hs ≤ 4294967295 = omega arith in
+    ap₂ (λ m n. State (Step a m n)) (run-exact ats ms first) (run-exact (extended ats ms) hs second ∙ ap (λ f. run f (length hs)) middle)
 node-is s (sum t ks) h k = ap (λ r. Dist (Sum t r)) (run-exact (s .terms) ks h)
 
 laid-nodes : (s : Store) (ls : List Line) → s .terms .fill + length (term-table ls) ≤ 4294967295 → s .alternatives .fill + length (alternative-table ls) ≤ 4294967295 → laid s ls .nodes ≡ extended (s .nodes) (node-table (s .terms .fill) (s .alternatives .fill) ls)
 laid-nodes s [] h k = refl
 laid-nodes s (l ∷ ls) h k =
     let ts = terms-in l in
-    let as = alternatives-in l in
+    let ats = alternatives-in l in
     let lt = length-append ts (term-table ls) in
-    let la = length-append as (alternative-table ls) in
+    let la = length-append ats (alternative-table ls) in
     let ft = exact (s .terms) ts (omega arith) in
-    let fa = exact (s .alternatives) as (omega arith) in
+    let fa = exact (s .alternatives) ats (omega arith) in
     laid-nodes (lay s l) ls (omega arith) (omega arith)
     ∙ ap₂ (λ n rest. extended (appended (s .nodes) n) rest) (node-is s l (omega arith) (omega arith)) (ap₂ (λ t a. node-table t a ls) ft fa)
 

@@ -13,3 +13,5 @@ pub mod Countings
 pub mod Planning
 pub mod Needing
 pub mod Laying
+pub mod Removing
+pub mod Sizes

@@ -117,7 +117,7 @@ module _ {X Y : Type 0} where
       sumBy-cons (λ z. sumBy (g z) ys) x xs ∙ ap (λ n. sumBy (g x) ys + n) (sumBy-swap g xs ys) ∙ sym (sumBy-add (g x) (λ y. sumBy (λ z. g z y) xs) ys)
       ∙ ap (λ (h : Y → ℕ). sumBy h ys) (fun-ext (λ y. sym (sumBy-cons (λ z. g z y) x xs)))
 
-  sumBy-map : (h : Y → ℕ) (f : X → Y) (xs : List X) → sumBy h (map f xs) ≡ sumBy (λ x. h (f x)) xs
+  pub sumBy-map : (h : Y → ℕ) (f : X → Y) (xs : List X) → sumBy h (map f xs) ≡ sumBy (λ x. h (f x)) xs
   sumBy-map h f [] = refl
   sumBy-map h f (x ∷ xs) = sumBy-cons h (f x) (map f xs) ∙ ap (λ n. h (f x) + n) (sumBy-map h f xs) ∙ sym (sumBy-cons (λ y. h (f y)) x xs)
 

@@ -48,6 +48,9 @@ module _ (R : Meaning) where
     pub moves-le : (p : ℕ) → moves-before R p ≤ p * 131072
     moves-le p = sumBy-counting-le (λ q. length (moves-of R q)) 131072 (λ q. omega (arith, length-moves q, actions-le q 32)) 0 p
 
+    pub rows-small : R .states ≤ 4096 → length (rows R) ≤ 1073741824
+    rows-small few = omega (arith, length-rows, moves-le (R .states))
+
   -- on no action beyond the last is there a move
   pub rows-past : Sound R → (p a x : ℕ) → 32 ≤ a → counting x (length (R .moves p a)) ≡ move-rows R p a
   rows-past sound p a x h =

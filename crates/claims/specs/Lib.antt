@@ -11,3 +11,4 @@ pub mod Stack
 pub mod Removals
 pub mod Layings
 pub mod Plans
+pub mod Divisions

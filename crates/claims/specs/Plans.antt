@@ -47,10 +47,10 @@ abbrev pub Firsts : Meaning → List ℕ → ℕ → Type 0
 Firsts R firsts p = (q : ℕ) → q < p → getD firsts q 0 ≡ R .states + moves-before R q
 
 abbrev pub plan-nodes : Plan → List Node
-plan-nodes x = x .tables .nodes .now
+plan-nodes x = x .nodes .now
 
 abbrev pub plan-lines : Plan → List Line
-plan-lines x = lines (x .tables .nodes .now) (x .tables .terms .now) (x .tables .alternatives .now)
+plan-lines x = lines (x .nodes .now) (x .terms .now) (x .alternatives .now)
 
 -- the number of the line that node d gives at the state or row p
 abbrev pub place-in : Plan → ℕ → ℕ → ℕ
@@ -126,14 +126,14 @@ Fit-state x sn.the-variants.Yes = Unit {0}
 Fit-state x sn.the-variants.No = Unit {0}
 Fit-state x (sn.the-variants.And i j) = (i < length (plan-nodes x)) × (j < length (plan-nodes x))
 Fit-state x (sn.the-variants.Not i) = i < length (plan-nodes x)
-Fit-state x (sn.the-variants.Step a ms hs) = Right-step (x .tables .alternatives .now) (length (plan-nodes x)) ms hs
+Fit-state x (sn.the-variants.Step a ms hs) = Right-step (x .alternatives .now) (length (plan-nodes x)) ms hs
 
 abbrev pub Fit-dist : Meaning → Plan → DistNode → Type 0
 Fit-dist R x dn.the-variants.Yes = Unit {0}
 Fit-dist R x dn.the-variants.No = Unit {0}
 Fit-dist R x (dn.the-variants.And i j) = (i < length (plan-nodes x)) × (j < length (plan-nodes x))
 Fit-dist R x (dn.the-variants.Not i) = i < length (plan-nodes x)
-Fit-dist R x (dn.the-variants.Sum t r) = Light-sum R (x .tables .terms .now) (length (plan-nodes x)) t r
+Fit-dist R x (dn.the-variants.Sum t r) = Light-sum R (x .terms .now) (length (plan-nodes x)) t r
 
 abbrev pub Fit : Meaning → Plan → Node → Type 0
 Fit R x (State y) = Fit-state x y
@@ -145,10 +145,10 @@ plan-quotient R x = quotient-lines (has (x .shared)) R (plan-lines x)
 
 -- what a node gives at the state or row p, and at all of them
 abbrev pub node-line : Meaning → Plan → Node → ℕ → Line
-node-line R x n p = new-line (has (x .shared)) R (plan-lines x) (line (x .tables .terms .now) (x .tables .alternatives .now) n) p
+node-line R x n p = new-line (has (x .shared)) R (plan-lines x) (line (x .terms .now) (x .alternatives .now) n) p
 
 abbrev pub node-lines : Meaning → Plan → Node → List Line
-node-lines R x n = new-lines (has (x .shared)) R (plan-lines x) (line (x .tables .terms .now) (x .tables .alternatives .now) n)
+node-lines R x n = new-lines (has (x .shared)) R (plan-lines x) (line (x .terms .now) (x .alternatives .now) n)
 
 -- what a sum gives at a move or point
 abbrev pub sum-line : Meaning → Plan → ℕ → List Term → Move → Line

@@ -167,7 +167,7 @@ fn decide<S: System>(claim: &Claim, tables: Tables, system: &S, truth: &mut [u8]
 }
 
 // Whether two masses multiply to more than is allowed.
-fn too_heavy(removed: u64, mass: u64) -> bool
+pub(crate) fn too_heavy(removed: u64, mass: u64) -> bool
     ensures { λ r. ⌜ r ≡ ltb 1000000000000000 (removed * mass) ⌝ }
 {
     MOST_MASS < removed as u128 * mass as u128

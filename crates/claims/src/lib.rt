@@ -5,6 +5,7 @@ pub mod judge;
 pub mod opening;
 mod need;
 mod plan;
+pub mod remove;
 mod row;
 mod spot;
 mod sum;

@@ -5,8 +5,8 @@ ghost use lib.ListN.{length, getD};
 ghost use Rattle.std.specs.Iters.{counting};
 ghost use Rattle.claims.specs.Quotient.{rows as allRows, move-rows};
 ghost use Rattle.claims.specs.Plans.{node-width, width-before, Sampled, actions-before, moves-before, Firsts, plan-nodes, place-in, Sampling, Planned};
-use crate::tables::Tables;
 use formulas::node::Node;
+use formulas::node::Term;
 use systems::actions::ActionSet;
 use systems::system::System;
 
@@ -17,7 +17,9 @@ const BLOCK: usize = 32;
 // A formula in its tables, the numbers of states and rows of a system, and places in the quotient.
 #[derive(Clone, Copy)]
 pub(crate) struct Plan<'a> {
-    pub tables: Tables<'a>,
+    pub nodes: &'a [Node],
+    pub terms: &'a [Term],
+    pub alternatives: &'a [u32],
     pub shared: ActionSet,
     pub states: u32,
     pub rows: u32,
@@ -122,7 +124,7 @@ pub(crate) fn offset(plan: Plan, d: u32) -> u64
     let block = end / BLOCK;
     let mut sum = plan.offsets[block];
     for j in block * BLOCK..end {
-        sum += width(plan.tables.nodes[j], plan.states, plan.rows) as u64;
+        sum += width(plan.nodes[j], plan.states, plan.rows) as u64;
     }
     sum
 }

@@ -101,25 +101,27 @@ fn put_here_parts(plan: Plan, shared: bool, parts: &[u32], heres: &[u32], p: u32
     ensures same { λ _. ⌜ name (now (out .exit) .slots) ≡ name (now (out .entry) .slots) ⌝ }
     ensures wrote { λ _. ⌜ table (now (out .exit)) ≡ extended (table (now (out .entry))) (cond shared (map (λ d. place-in (plan .entry) d p) (now (heres .entry))) (cross (place-in (plan .entry)) (now (parts .entry)) (counting first count) ++ map (λ d. place-in (plan .entry) d p) (now (heres .entry)))) ⌝ }
 {
-    if !shared {
+    if shared {
+        put_places(plan, heres, p, out);
+    } else {
         put_crossed(plan, parts, first, count, out);
+        put_places(plan, heres, p, out);
     }
-    put_places(plan, heres, p, out);
 }
 
 // Writes the line of a step in the state `p`.
 fn put_step<S: System>(system: &S, plan: Plan, p: u32, action: u32, moves: Run, heres: Run, nodes: &mut AppendList<Node>, alternatives: &mut AppendList<u32>)
     requires planned { ⌜ Planned (meaning (now system)) plan ⌝ }
     requires inside { ⌜ p < meaning (now system) .states ⌝ }
-    requires right { ⌜ Right-step (now (plan .tables .alternatives)) (length (plan-nodes plan)) moves heres ⌝ }
+    requires right { ⌜ Right-step (now (plan .alternatives)) (length (plan-nodes plan)) moves heres ⌝ }
     ensures lent { λ _. ⌜ (name (now (nodes .exit) .slots) ≡ name (now (nodes .entry) .slots)) × (name (now (alternatives .exit) .slots) ≡ name (now (alternatives .entry) .slots)) ⌝ }
     ensures wrote { λ _. ⌜ ((ts : Table Term) → stored (table (now (nodes .exit))) ts (table (now (alternatives .exit))) ≡ lay (stored (table (now (nodes .entry))) ts (table (now (alternatives .entry)))) (node-line (meaning (now (system .entry))) (plan .entry) (Node.State (StateNode.Step action moves heres)) p)) ⌝ }
 {
     let shared = plan.shared.contains(action);
     let count = system.moves(p, action);
     let row = first_row(system, plan, p, action);
-    let parts = &plan.tables.alternatives[moves.first as usize..moves.first as usize + moves.count as usize];
-    let here_parts = &plan.tables.alternatives[heres.first as usize..heres.first as usize + heres.count as usize];
+    let parts = &plan.alternatives[moves.first as usize..moves.first as usize + moves.count as usize];
+    let here_parts = &plan.alternatives[heres.first as usize..heres.first as usize + heres.count as usize];
     let first = alternatives.fill;
     put_move_parts(plan, shared, parts, p, row, count, alternatives);
     let middle = alternatives.fill;
@@ -133,7 +135,7 @@ fn put_step<S: System>(system: &S, plan: Plan, p: u32, action: u32, moves: Run, 
 // Writes the lines of a step in each state.
 fn put_steps<S: System>(system: &S, plan: Plan, action: u32, moves: Run, heres: Run, nodes: &mut AppendList<Node>, alternatives: &mut AppendList<u32>)
     requires planned { ⌜ Planned (meaning (now system)) plan ⌝ }
-    requires right { ⌜ Right-step (now (plan .tables .alternatives)) (length (plan-nodes plan)) moves heres ⌝ }
+    requires right { ⌜ Right-step (now (plan .alternatives)) (length (plan-nodes plan)) moves heres ⌝ }
     ensures lent { λ _. ⌜ (name (now (nodes .exit) .slots) ≡ name (now (nodes .entry) .slots)) × (name (now (alternatives .exit) .slots) ≡ name (now (alternatives .entry) .slots)) ⌝ }
     ensures wrote { λ _. ⌜ ((ts : Table Term) → stored (table (now (nodes .exit))) ts (table (now (alternatives .exit))) ≡ laid (stored (table (now (nodes .entry))) ts (table (now (alternatives .entry)))) (node-lines (meaning (now (system .entry))) (plan .entry) (Node.State (StateNode.Step action moves heres)))) ⌝ }
 {
@@ -192,12 +194,12 @@ fn put_terms<S: System>(system: &S, plan: Plan, spot: Spot, parts: &[Term], out:
 fn put_sum<S: System>(system: &S, plan: Plan, spot: Spot, threshold: u64, run: Run, nodes: &mut AppendList<Node>, terms: &mut AppendList<Term>)
     requires planned { ⌜ Planned (meaning (now system)) plan ⌝ }
     requires placed { ⌜ Placed (meaning (now system)) spot ⌝ }
-    requires sum { ⌜ Light-sum (meaning (now system)) (now (plan .tables .terms)) (length (plan-nodes plan)) threshold run ⌝ }
+    requires sum { ⌜ Light-sum (meaning (now system)) (now (plan .terms)) (length (plan-nodes plan)) threshold run ⌝ }
     ensures lent { λ _. ⌜ (name (now (nodes .exit) .slots) ≡ name (now (nodes .entry) .slots)) × (name (now (terms .exit) .slots) ≡ name (now (terms .entry) .slots)) ⌝ }
-    ensures wrote { λ _. ⌜ ((alts : Table ℕ) → stored (table (now (nodes .exit))) (table (now (terms .exit))) alts ≡ lay (stored (table (now (nodes .entry))) (table (now (terms .entry))) alts) (sum-line (meaning (now (system .entry))) (plan .entry) threshold (entries (now (plan .entry .tables .terms)) run) (spot-of (meaning (now (system .entry))) spot))) ⌝ }
+    ensures wrote { λ _. ⌜ ((alts : Table ℕ) → stored (table (now (nodes .exit))) (table (now (terms .exit))) alts ≡ lay (stored (table (now (nodes .entry))) (table (now (terms .entry))) alts) (sum-line (meaning (now (system .entry))) (plan .entry) threshold (entries (now (plan .entry .terms)) run) (spot-of (meaning (now (system .entry))) spot))) ⌝ }
 {
     let first = terms.fill;
-    let parts = &plan.tables.terms[run.first as usize..run.first as usize + run.count as usize];
+    let parts = &plan.terms[run.first as usize..run.first as usize + run.count as usize];
     put_terms(system, plan, spot, parts, terms);
     let end = terms.fill;
     nodes.put(Node::Dist(DistNode::Sum {
@@ -209,9 +211,9 @@ fn put_sum<S: System>(system: &S, plan: Plan, spot: Spot, threshold: u64, run: R
 // Writes the lines of a sum at the points of the states.
 fn put_sums_here<S: System>(system: &S, plan: Plan, threshold: u64, run: Run, nodes: &mut AppendList<Node>, terms: &mut AppendList<Term>)
     requires planned { ⌜ Planned (meaning (now system)) plan ⌝ }
-    requires sum { ⌜ Light-sum (meaning (now system)) (now (plan .tables .terms)) (length (plan-nodes plan)) threshold run ⌝ }
+    requires sum { ⌜ Light-sum (meaning (now system)) (now (plan .terms)) (length (plan-nodes plan)) threshold run ⌝ }
     ensures lent { λ _. ⌜ (name (now (nodes .exit) .slots) ≡ name (now (nodes .entry) .slots)) × (name (now (terms .exit) .slots) ≡ name (now (terms .entry) .slots)) ⌝ }
-    ensures wrote { λ _. ⌜ ((alts : Table ℕ) → stored (table (now (nodes .exit))) (table (now (terms .exit))) alts ≡ laid (stored (table (now (nodes .entry))) (table (now (terms .entry))) alts) (map (λ p. sum-line (meaning (now (system .entry))) (plan .entry) threshold (entries (now (plan .entry .tables .terms)) run) (point (meaning (now (system .entry))) p)) (counting 0 (meaning (now (system .entry)) .states)))) ⌝ }
+    ensures wrote { λ _. ⌜ ((alts : Table ℕ) → stored (table (now (nodes .exit))) (table (now (terms .exit))) alts ≡ laid (stored (table (now (nodes .entry))) (table (now (terms .entry))) alts) (map (λ p. sum-line (meaning (now (system .entry))) (plan .entry) threshold (entries (now (plan .entry .terms)) run) (point (meaning (now (system .entry))) p)) (counting 0 (meaning (now (system .entry)) .states)))) ⌝ }
 {
     for p in 0..plan.states {
         put_sum(system, plan, Spot::Here(p), threshold, run, nodes, terms);
@@ -221,9 +223,9 @@ fn put_sums_here<S: System>(system: &S, plan: Plan, threshold: u64, run: Run, no
 // Writes its lines at the moves of a state on an action.
 fn put_sums_on<S: System>(system: &S, plan: Plan, state: u32, action: u32, threshold: u64, run: Run, nodes: &mut AppendList<Node>, terms: &mut AppendList<Term>)
     requires planned { ⌜ Planned (meaning (now system)) plan ⌝ }
-    requires sum { ⌜ Light-sum (meaning (now system)) (now (plan .tables .terms)) (length (plan-nodes plan)) threshold run ⌝ }
+    requires sum { ⌜ Light-sum (meaning (now system)) (now (plan .terms)) (length (plan-nodes plan)) threshold run ⌝ }
     ensures lent { λ _. ⌜ (name (now (nodes .exit) .slots) ≡ name (now (nodes .entry) .slots)) × (name (now (terms .exit) .slots) ≡ name (now (terms .entry) .slots)) ⌝ }
-    ensures wrote { λ _. ⌜ ((alts : Table ℕ) → stored (table (now (nodes .exit))) (table (now (terms .exit))) alts ≡ laid (stored (table (now (nodes .entry))) (table (now (terms .entry))) alts) (map (sum-line (meaning (now (system .entry))) (plan .entry) threshold (entries (now (plan .entry .tables .terms)) run)) (meaning (now (system .entry)) .moves state action))) ⌝ }
+    ensures wrote { λ _. ⌜ ((alts : Table ℕ) → stored (table (now (nodes .exit))) (table (now (terms .exit))) alts ≡ laid (stored (table (now (nodes .entry))) (table (now (terms .entry))) alts) (map (sum-line (meaning (now (system .entry))) (plan .entry) threshold (entries (now (plan .entry .terms)) run)) (meaning (now (system .entry)) .moves state action))) ⌝ }
 {
     let count = system.moves(state, action);
     for k in 0..count {
@@ -234,9 +236,9 @@ fn put_sums_on<S: System>(system: &S, plan: Plan, state: u32, action: u32, thres
 // Writes its lines at the moves of a state.
 fn put_sums_from<S: System>(system: &S, plan: Plan, state: u32, threshold: u64, run: Run, nodes: &mut AppendList<Node>, terms: &mut AppendList<Term>)
     requires planned { ⌜ Planned (meaning (now system)) plan ⌝ }
-    requires sum { ⌜ Light-sum (meaning (now system)) (now (plan .tables .terms)) (length (plan-nodes plan)) threshold run ⌝ }
+    requires sum { ⌜ Light-sum (meaning (now system)) (now (plan .terms)) (length (plan-nodes plan)) threshold run ⌝ }
     ensures lent { λ _. ⌜ (name (now (nodes .exit) .slots) ≡ name (now (nodes .entry) .slots)) × (name (now (terms .exit) .slots) ≡ name (now (terms .entry) .slots)) ⌝ }
-    ensures wrote { λ _. ⌜ ((alts : Table ℕ) → stored (table (now (nodes .exit))) (table (now (terms .exit))) alts ≡ laid (stored (table (now (nodes .entry))) (table (now (terms .entry))) alts) (map (sum-line (meaning (now (system .entry))) (plan .entry) threshold (entries (now (plan .entry .tables .terms)) run)) (moves-of (meaning (now (system .entry))) state))) ⌝ }
+    ensures wrote { λ _. ⌜ ((alts : Table ℕ) → stored (table (now (nodes .exit))) (table (now (terms .exit))) alts ≡ laid (stored (table (now (nodes .entry))) (table (now (terms .entry))) alts) (map (sum-line (meaning (now (system .entry))) (plan .entry) threshold (entries (now (plan .entry .terms)) run)) (moves-of (meaning (now (system .entry))) state))) ⌝ }
 {
     for action in 0..ACTIONS {
         put_sums_on(system, plan, state, action, threshold, run, nodes, terms);
@@ -246,9 +248,9 @@ fn put_sums_from<S: System>(system: &S, plan: Plan, state: u32, threshold: u64, 
 // Writes its lines at all moves.
 fn put_sums_along<S: System>(system: &S, plan: Plan, threshold: u64, run: Run, nodes: &mut AppendList<Node>, terms: &mut AppendList<Term>)
     requires planned { ⌜ Planned (meaning (now system)) plan ⌝ }
-    requires sum { ⌜ Light-sum (meaning (now system)) (now (plan .tables .terms)) (length (plan-nodes plan)) threshold run ⌝ }
+    requires sum { ⌜ Light-sum (meaning (now system)) (now (plan .terms)) (length (plan-nodes plan)) threshold run ⌝ }
     ensures lent { λ _. ⌜ (name (now (nodes .exit) .slots) ≡ name (now (nodes .entry) .slots)) × (name (now (terms .exit) .slots) ≡ name (now (terms .entry) .slots)) ⌝ }
-    ensures wrote { λ _. ⌜ ((alts : Table ℕ) → stored (table (now (nodes .exit))) (table (now (terms .exit))) alts ≡ laid (stored (table (now (nodes .entry))) (table (now (terms .entry))) alts) (map (sum-line (meaning (now (system .entry))) (plan .entry) threshold (entries (now (plan .entry .tables .terms)) run)) (joined (moves-of (meaning (now (system .entry)))) (counting 0 (meaning (now (system .entry)) .states))))) ⌝ }
+    ensures wrote { λ _. ⌜ ((alts : Table ℕ) → stored (table (now (nodes .exit))) (table (now (terms .exit))) alts ≡ laid (stored (table (now (nodes .entry))) (table (now (terms .entry))) alts) (map (sum-line (meaning (now (system .entry))) (plan .entry) threshold (entries (now (plan .entry .terms)) run)) (joined (moves-of (meaning (now (system .entry)))) (counting 0 (meaning (now (system .entry)) .states))))) ⌝ }
 {
     for p in 0..plan.states {
         put_sums_from(system, plan, p, threshold, run, nodes, terms);
@@ -258,7 +260,7 @@ fn put_sums_along<S: System>(system: &S, plan: Plan, threshold: u64, run: Run, n
 // Writes its lines at all rows.
 fn put_sums<S: System>(system: &S, plan: Plan, threshold: u64, run: Run, nodes: &mut AppendList<Node>, terms: &mut AppendList<Term>)
     requires planned { ⌜ Planned (meaning (now system)) plan ⌝ }
-    requires sum { ⌜ Light-sum (meaning (now system)) (now (plan .tables .terms)) (length (plan-nodes plan)) threshold run ⌝ }
+    requires sum { ⌜ Light-sum (meaning (now system)) (now (plan .terms)) (length (plan-nodes plan)) threshold run ⌝ }
     ensures lent { λ _. ⌜ (name (now (nodes .exit) .slots) ≡ name (now (nodes .entry) .slots)) × (name (now (terms .exit) .slots) ≡ name (now (terms .entry) .slots)) ⌝ }
     ensures wrote { λ _. ⌜ ((alts : Table ℕ) → stored (table (now (nodes .exit))) (table (now (terms .exit))) alts ≡ laid (stored (table (now (nodes .entry))) (table (now (terms .entry))) alts) (node-lines (meaning (now (system .entry))) (plan .entry) (Node.Dist (DistNode.Sum threshold run)))) ⌝ }
 {
@@ -376,9 +378,9 @@ fn put_nodes<S: System>(system: &S, plan: Plan, nodes: &mut AppendList<Node>, te
     ensures lent { λ _. ⌜ (name (now (nodes .exit) .slots) ≡ name (now (nodes .entry) .slots)) × (name (now (terms .exit) .slots) ≡ name (now (terms .entry) .slots)) × (name (now (alternatives .exit) .slots) ≡ name (now (alternatives .entry) .slots)) ⌝ }
     ensures wrote { λ _. ⌜ store (now (nodes .exit)) (now (terms .exit)) (now (alternatives .exit)) ≡ laid (store (now (nodes .entry)) (now (terms .entry)) (now (alternatives .entry))) (plan-quotient (meaning (now (system .entry))) (plan .entry)) ⌝ }
 {
-    let count = plan.tables.nodes.len();
+    let count = plan.nodes.len();
     for i in 0..count {
-        put_node(system, plan, plan.tables.nodes[i], nodes, terms, alternatives);
+        put_node(system, plan, plan.nodes[i], nodes, terms, alternatives);
     }
 }
 

@@ -3,4 +3,4 @@ use Rattle.claims.specs.Plans.{width-before}
 use Rattle.claims.proofs.plan.offset.Given as given
 
 abbrev pub Inv-loop-j : given.InvT-loop-j
-Inv-loop-j l = l .sum ≡ width-before (l .plan .states) (l .plan .rows) (l .plan .tables .nodes .now) (l .j)
+Inv-loop-j l = l .sum ≡ width-before (l .plan .states) (l .plan .rows) (l .plan .nodes .now) (l .j)
