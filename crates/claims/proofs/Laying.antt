@@ -115,17 +115,24 @@ length-nodes : (t a : ℕ) (ls : List Line) → length (node-table t a ls) ≡ l
 length-nodes t a [] = refl
 length-nodes t a (l ∷ ls) = ap suc (length-nodes (t + length (terms-in l)) (a + length (alternatives-in l)) ls)
 
--- lines laid into three tables from their start
-module _ (ls : List Line) (s u : Store) (e : u ≡ laid s ls) (room : Room ls (length (s .nodes .slots)) (length (s .terms .slots)) (length (s .alternatives .slots))) (n : s .nodes .fill ≡ 0) (t : s .terms .fill ≡ 0) (a : s .alternatives .fill ≡ 0) where
-  pub laid-over-nodes : u .nodes .slots ≡ over (node-table 0 0 ls) (s .nodes .slots)
+-- three empty tables
+abbrev pub starts : List Node → List Term → List ℕ → Store
+starts ns ts alts = stored (record { slots = ns; fill = 0 }) (record { slots = ts; fill = 0 }) (record { slots = alts; fill = 0 })
+
+pub starts-are : (n : AppendList Node) (t : AppendList Term) (a : AppendList ℕ) (ns : List Node) (ts : List Term) (alts : List ℕ) → now (n .slots) ≡ ns → n .fill ≡ 0 → now (t .slots) ≡ ts → t .fill ≡ 0 → now (a .slots) ≡ alts → a .fill ≡ 0 → stored (table n) (table t) (table a) ≡ starts ns ts alts
+starts-are n t a ns ts alts en fn et ft ea fa = cc
+
+-- lines laid into them
+module _ (ls : List Line) (ns : List Node) (ts : List Term) (alts : List ℕ) (u : Store) (e : u ≡ laid (starts ns ts alts) ls) (room : Room ls (length ns) (length ts) (length alts)) where
+  pub laid-over-nodes : u .nodes .slots ≡ over (node-table 0 0 ls) ns
   laid-over-nodes =
       let long = length-nodes 0 0 ls in
-      over-from-start (s .nodes) (u .nodes) (node-table 0 0 ls) n
-        (ap (λ (w : Store). w .nodes) e ∙ laid-nodes s ls (omega (arith, room .few-terms)) (omega (arith, room .few-alternatives)) ∙ ap₂ (λ x y. extended (s .nodes) (node-table x y ls)) t a)
+      over-from-start (record { slots = ns; fill = 0 }) (u .nodes) (node-table 0 0 ls) refl
+        (ap (λ (w : Store). w .nodes) e ∙ laid-nodes (starts ns ts alts) ls (omega (arith, room .few-terms)) (omega (arith, room .few-alternatives)))
         (omega (arith, room .nodes-fit)) (omega (arith, room .few-nodes))
 
-  pub laid-over-terms : u .terms .slots ≡ over (term-table ls) (s .terms .slots)
-  laid-over-terms = over-from-start (s .terms) (u .terms) (term-table ls) t (ap (λ (w : Store). w .terms) e ∙ laid-terms s ls) (room .terms-fit) (room .few-terms)
+  pub laid-over-terms : u .terms .slots ≡ over (term-table ls) ts
+  laid-over-terms = over-from-start (record { slots = ts; fill = 0 }) (u .terms) (term-table ls) refl (ap (λ (w : Store). w .terms) e ∙ laid-terms (starts ns ts alts) ls) (room .terms-fit) (room .few-terms)
 
-  pub laid-over-alternatives : u .alternatives .slots ≡ over (alternative-table ls) (s .alternatives .slots)
-  laid-over-alternatives = over-from-start (s .alternatives) (u .alternatives) (alternative-table ls) a (ap (λ (w : Store). w .alternatives) e ∙ laid-alternatives s ls) (room .alternatives-fit) (room .few-alternatives)
+  pub laid-over-alternatives : u .alternatives .slots ≡ over (alternative-table ls) alts
+  laid-over-alternatives = over-from-start (record { slots = alts; fill = 0 }) (u .alternatives) (alternative-table ls) refl (ap (λ (w : Store). w .alternatives) e ∙ laid-alternatives (starts ns ts alts) ls) (room .alternatives-fit) (room .few-alternatives)

@@ -15,3 +15,4 @@ pub mod Needing
 pub mod Laying
 pub mod Removing
 pub mod Sizes
+pub mod Dividing

@@ -33,6 +33,25 @@ whole xs r = take (r .first + r .count - r .first) (drop (r .first) xs)
 pub cut : {X : Type 0} (xs : List X) (r : Run) → whole xs r ≡ entries xs r
 cut xs r = ap (λ n. take n (drop (r .first) xs)) (omega arith)
 
+-- as many lines as nodes give, where there are n states and r rows
+module _ (R : Meaning) (n r : ℕ) (en : n ≡ R .states) (er : r ≡ length (rows R)) (ts : List Term) (alts : List ℕ) where
+  pub width-is : (y : Node) → node-width n r y ≡ width R (sort (line ts alts y))
+  width-is (State sn.the-variants.Yes) = en
+  width-is (State sn.the-variants.No) = en
+  width-is (State (sn.the-variants.And i j)) = en
+  width-is (State (sn.the-variants.Not i)) = en
+  width-is (State (sn.the-variants.Step a ms hs)) = en
+  width-is (Dist dn.the-variants.Yes) = er
+  width-is (Dist dn.the-variants.No) = er
+  width-is (Dist (dn.the-variants.And i j)) = er
+  width-is (Dist (dn.the-variants.Not i)) = er
+  width-is (Dist (dn.the-variants.Sum t k)) = er
+
+  pub widths-are : (ns : List Node) → sumBy (node-width n r) ns ≡ sumBy (λ l. width R (sort l)) (lines ns ts alts)
+  widths-are [] = refl
+  widths-are (y ∷ ns) =
+      sumBy-cons (node-width n r) y ns ∙ ap₂ _+_ (width-is y) (widths-are ns) ∙ sym (sumBy-cons (λ l. width R (sort l)) (line ts alts y) (lines ns ts alts))
+
 module _ (R : Meaning) (x : Plan) (planned : Planned R x) where
   abbrev ts : List Term
   ts = x .terms .now
@@ -40,26 +59,9 @@ module _ (R : Meaning) (x : Plan) (planned : Planned R x) where
   abbrev alts : List ℕ
   alts = x .alternatives .now
 
-  pub width-is : (n : Node) → node-width (x .states) (x .rows) n ≡ width R (sort (line ts alts n))
-  width-is (State sn.the-variants.Yes) = planned .states
-  width-is (State sn.the-variants.No) = planned .states
-  width-is (State (sn.the-variants.And i j)) = planned .states
-  width-is (State (sn.the-variants.Not i)) = planned .states
-  width-is (State (sn.the-variants.Step a ms hs)) = planned .states
-  width-is (Dist dn.the-variants.Yes) = planned .rows
-  width-is (Dist dn.the-variants.No) = planned .rows
-  width-is (Dist (dn.the-variants.And i j)) = planned .rows
-  width-is (Dist (dn.the-variants.Not i)) = planned .rows
-  width-is (Dist (dn.the-variants.Sum t r)) = planned .rows
-
-  pub widths-are : (ns : List Node) → sumBy (node-width (x .states) (x .rows)) ns ≡ sumBy (λ l. width R (sort l)) (lines ns ts alts)
-  widths-are [] = refl
-  widths-are (n ∷ ns) =
-      sumBy-cons (node-width (x .states) (x .rows)) n ns ∙ ap₂ _+_ (width-is n) (widths-are ns) ∙ sym (sumBy-cons (λ l. width R (sort l)) (line ts alts n) (lines ns ts alts))
-
   pub place-is : (d p : ℕ) → place-in x d p ≡ place R (plan-lines x) d p
   unfolding place
-  place-is d p = ap (λ n. n + p) (widths-are (take d (plan-nodes x)) ∙ ap (sumBy (λ l. width R (sort l))) (sym (take-map (line ts alts) d (plan-nodes x))))
+  place-is d p = ap (λ n. n + p) (widths-are R (x .states) (x .rows) (planned .states) (planned .rows) ts alts (take d (plan-nodes x)) ∙ ap (sumBy (λ l. width R (sort l))) (sym (take-map (line ts alts) d (plan-nodes x))))
 
   pub places-are : place-in x ≡ place R (plan-lines x)
   places-are = fun-ext (λ d. fun-ext (λ p. place-is d p))

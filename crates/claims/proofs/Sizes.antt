@@ -23,7 +23,7 @@ use Rattle.formulas.specs.declared.node.Term.{Term}
 use Rattle.formulas.specs.Layout.{terms-in, alternatives-in, term-table, alternative-table}
 use Rattle.formulas.specs.Lines.{Line, sort, line, lines, entries}
 use Rattle.claims.specs.declared.plan.Plan.{Plan}
-use Rattle.claims.specs.Quotient.{moves-of, rows, move-rows, width, place, places, move-places, new-step, new-term, new-line, new-lines}
+use Rattle.claims.specs.Quotient.{moves-of, rows, move-rows, width, place, places, move-places, new-step, new-term, new-line, new-lines, quotient-lines}
 use Rattle.claims.specs.Plans.{node-width, width-before, plan-nodes, plan-lines, plan-quotient, Planned, Fit, node-line, node-lines, sum-line, targets-on, targets-from, all-targets, step-need, term-need, alternative-need}
 use Rattle.claims.specs.Rows.{no-node}
 use Rattle.claims.proofs.Lists.{length-cross, length-joined, sumBy-map, sumBy-eq, sumBy-on, sumBy-mul}
@@ -59,6 +59,13 @@ module _ (R : Meaning) where
       let ps = counting 0 (R .states) in
       sumBy-append length (map (point R) ps) (joined (moves-of R) ps)
       ∙ ap₂ _+_ (points-targets ps ∙ length-counting 0 (R .states)) (sumBy-joined length (moves-of R) ps ∙ sumBy-eq ps (λ p. sumBy-joined length (R .moves p) (counting 0 32)))
+
+pub nodes-needed : (A : ℕ → Bool) (R : Meaning) (n r : ℕ) → n ≡ R .states → r ≡ length (rows R) → (ns : List Node) (ts : List Term) (alts : List ℕ) → length (quotient-lines A R (lines ns ts alts)) ≡ width-before n r ns (length ns)
+nodes-needed A R n r en er ns ts alts =
+    let ls = lines ns ts alts in
+    length-joined (new-lines A R ls) (λ l. width R (sort l)) (λ l. length-map-counting (new-line A R ls l) 0 (width R (sort l))) ls
+    ∙ sym (widths-are R n r en er ts alts ns)
+    ∙ ap (sumBy (node-width n r)) (sym (take-all (length ns) ns (omega arith)))
 
 module _ (R : Meaning) (x : Plan) (planned : Planned R x) where
   abbrev ts : List Term
@@ -129,12 +136,6 @@ module _ (R : Meaning) (x : Plan) (planned : Planned R x) where
   alternatives-given (Dist (dn.the-variants.And i j)) h = none-given alternative-count (Dist (dn.the-variants.And i j)) (λ p. refl)
   alternatives-given (Dist (dn.the-variants.Not i)) h = none-given alternative-count (Dist (dn.the-variants.Not i)) (λ p. refl)
   alternatives-given (Dist (dn.the-variants.Sum t r)) h = none-given alternative-count (Dist (dn.the-variants.Sum t r)) (λ p. refl)
-
-  pub nodes-needed : length (plan-quotient R x) ≡ width-before (x .states) (x .rows) (plan-nodes x) (length (plan-nodes x))
-  nodes-needed =
-      length-joined (new-lines (has (x .shared)) R (plan-lines x)) (λ l. width R (sort l)) (λ l. length-map-counting (new-line (has (x .shared)) R (plan-lines x) l) 0 (width R (sort l))) (plan-lines x)
-      ∙ sym (widths-are R x planned (plan-nodes x))
-      ∙ ap (sumBy (node-width (x .states) (x .rows))) (sym (take-all (length (plan-nodes x)) (plan-nodes x) (omega arith)))
 
   module _ (fit : (i : ℕ) (d : Node) → i < length (plan-nodes x) → Fit R x (getD (plan-nodes x) i d)) where
     by-nodes : (w : Line → ℕ) (need : Node → ℕ) → ((n : Node) → Fit R x n → sumBy w (node-lines R x n) ≡ need n) → sumBy w (plan-quotient R x) ≡ sumBy need (plan-nodes x)

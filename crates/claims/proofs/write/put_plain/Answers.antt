@@ -34,6 +34,6 @@ returns g c =
     let R = g .S·System .meaning (c .args .system .now) in
     let x = c .args .plan in
     let h = c .loop-p .inv in
-    let wide = width-is R x (c .pre .planned) (c .args .node) in
+    let wide = width-is R (x .states) (x .rows) (c .pre .planned .states) (c .pre .planned .rows) (x .terms .now) (x .alternatives .now) (c .args .node) in
     let end : c .loop-p .p ≡ width R (sort (line (x .terms .now) (x .alternatives .now) (c .args .node))) = omega (arith, c .loop-p .kept .p-end, c .loop-p-test .left, c .pre .width, wide) in
     record { same = h .0; wrote = λ ts alts. h .1 ts alts ∙ ap (λ n. laid (stored (table (c .args .nodes .now)) ts alts) (map (node-line R x (c .args .node)) (counting 0 n))) end }
