@@ -41,7 +41,7 @@ right-up ts alts m k i (Dist (dn.the-variants.And p q)) h r = r
 right-up ts alts m k i (Dist (dn.the-variants.Not p)) h r = r
 right-up ts alts m k i (Dist (dn.the-variants.Sum x run)) h r = record { within = r .within; low = omega (arith, r .low); below = r .below; light = omega (arith, r .light) }
 
-state-inside : (ns : List Node) (i : ℕ) → isState ns i ≡ true → i < length ns
+pub state-inside : (ns : List Node) (i : ℕ) → isState ns i ≡ true → i < length ns
 state-inside ns i h =
     ⊎-elim (λ l. l) (λ ge. absurd (both-ways (isState ns i) (ap stateSort (getD-past ns i no-dist ge)) h)) (cases-lt i (length ns))
 

@@ -52,6 +52,10 @@ module _ (R : Meaning) (n r : ℕ) (en : n ≡ R .states) (er : r ≡ length (ro
   widths-are (y ∷ ns) =
       sumBy-cons (node-width n r) y ns ∙ ap₂ _+_ (width-is y) (widths-are ns) ∙ sym (sumBy-cons (λ l. width R (sort l)) (line ts alts y) (lines ns ts alts))
 
+  pub place-at : (ns : List Node) (d p : ℕ) → width-before n r ns d + p ≡ place R (lines ns ts alts) d p
+  unfolding place
+  place-at ns d p = ap (λ k. k + p) (widths-are (take d ns) ∙ ap (sumBy (λ l. width R (sort l))) (sym (take-map (line ts alts) d ns)))
+
 module _ (R : Meaning) (x : Plan) (planned : Planned R x) where
   abbrev ts : List Term
   ts = x .terms .now
@@ -60,8 +64,7 @@ module _ (R : Meaning) (x : Plan) (planned : Planned R x) where
   alts = x .alternatives .now
 
   pub place-is : (d p : ℕ) → place-in x d p ≡ place R (plan-lines x) d p
-  unfolding place
-  place-is d p = ap (λ n. n + p) (widths-are R (x .states) (x .rows) (planned .states) (planned .rows) ts alts (take d (plan-nodes x)) ∙ ap (sumBy (λ l. width R (sort l))) (sym (take-map (line ts alts) d (plan-nodes x))))
+  place-is d p = place-at R (x .states) (x .rows) (planned .states) (planned .rows) ts alts (plan-nodes x) d p
 
   pub places-are : place-in x ≡ place R (plan-lines x)
   places-are = fun-ext (λ d. fun-ext (λ p. place-is d p))
@@ -98,26 +101,27 @@ module _ (R : Meaning) (x : Plan) (planned : Planned R x) where
       new-is true = refl
       new-is false = refl
 
+module _ (R : Meaning) (x : Plan) where
   -- a sum at all rows
-  pub sum-rows-are : (t : ℕ) (r : Run) → node-lines R x (Dist (dn.the-variants.Sum t r)) ≡ map (sum-line R x t (entries ts r)) (rows R)
+  pub sum-rows-are : (t : ℕ) (r : Run) → node-lines R x (Dist (dn.the-variants.Sum t r)) ≡ map (sum-line R x t (entries (x .terms .now) r)) (rows R)
   unfolding new-line
   sum-rows-are t r = looked-up (rows R)
     where
-      looked-up : (mvs : List Move) → map (λ k. sum-line R x t (entries ts r) (getD mvs k [])) (counting 0 (length mvs)) ≡ map (sum-line R x t (entries ts r)) mvs
+      looked-up : (mvs : List Move) → map (λ k. sum-line R x t (entries (x .terms .now) r) (getD mvs k [])) (counting 0 (length mvs)) ≡ map (sum-line R x t (entries (x .terms .now) r)) mvs
       looked-up mvs =
-          let f = sum-line R x t (entries ts r) in
+          let f = sum-line R x t (entries (x .terms .now) r) in
           sym (fill-by-all (λ k. f (getD mvs k [])) (map f mvs) (length mvs) (f []) (length-map mvs f) (λ k h. getD-map f mvs k [] (f []) h))
 
-  pub sum-lines-are : (t : ℕ) (r : Run) → node-lines R x (Dist (dn.the-variants.Sum t r)) ≡ map (λ p. sum-line R x t (entries ts r) (point R p)) (counting 0 (R .states)) ++ map (sum-line R x t (entries ts r)) (joined (moves-of R) (counting 0 (R .states)))
+  pub sum-lines-are : (t : ℕ) (r : Run) → node-lines R x (Dist (dn.the-variants.Sum t r)) ≡ map (λ p. sum-line R x t (entries (x .terms .now) r) (point R p)) (counting 0 (R .states)) ++ map (sum-line R x t (entries (x .terms .now) r)) (joined (moves-of R) (counting 0 (R .states)))
   unfolding rows
   sum-lines-are t r =
       sum-rows-are t r
-      ∙ map-append (sum-line R x t (entries ts r)) (map (point R) (counting 0 (R .states))) (joined (moves-of R) (counting 0 (R .states)))
-      ∙ ap (λ l. l ++ map (sum-line R x t (entries ts r)) (joined (moves-of R) (counting 0 (R .states)))) (map-map (counting 0 (R .states)))
+      ∙ map-append (sum-line R x t (entries (x .terms .now) r)) (map (point R) (counting 0 (R .states))) (joined (moves-of R) (counting 0 (R .states)))
+      ∙ ap (λ l. l ++ map (sum-line R x t (entries (x .terms .now) r)) (joined (moves-of R) (counting 0 (R .states)))) (map-map (counting 0 (R .states)))
     where
-      map-map : (ps : List ℕ) → map (sum-line R x t (entries ts r)) (map (point R) ps) ≡ map (λ p. sum-line R x t (entries ts r) (point R p)) ps
+      map-map : (ps : List ℕ) → map (sum-line R x t (entries (x .terms .now) r)) (map (point R) ps) ≡ map (λ p. sum-line R x t (entries (x .terms .now) r) (point R p)) ps
       map-map [] = refl
-      map-map (p ∷ ps) = ap (λ l. sum-line R x t (entries ts r) (point R p) ∷ l) (map-map ps)
+      map-map (p ∷ ps) = ap (λ l. sum-line R x t (entries (x .terms .now) r) (point R p) ∷ l) (map-map ps)
 
 joined-map : {X Y Z : Type 0} (f : Y → List Z) (g : X → Y) (xs : List X) → joined (λ x. f (g x)) xs ≡ joined f (map g xs)
 joined-map f g [] = refl

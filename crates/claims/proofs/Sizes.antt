@@ -24,7 +24,7 @@ use Rattle.formulas.specs.Layout.{terms-in, alternatives-in, term-table, altern
 use Rattle.formulas.specs.Lines.{Line, sort, line, lines, entries}
 use Rattle.claims.specs.declared.plan.Plan.{Plan}
 use Rattle.claims.specs.Quotient.{moves-of, rows, move-rows, width, place, places, move-places, new-step, new-term, new-line, new-lines, quotient-lines}
-use Rattle.claims.specs.Plans.{node-width, width-before, plan-nodes, plan-lines, plan-quotient, Planned, Fit, node-line, node-lines, sum-line, targets-on, targets-from, all-targets, step-need, term-need, alternative-need}
+use Rattle.claims.specs.Plans.{node-width, width-before, plan-nodes, plan-lines, plan-quotient, Fit, node-line, node-lines, sum-line, targets-on, targets-from, all-targets, step-need, term-need, alternative-need}
 use Rattle.claims.specs.Rows.{no-node}
 use Rattle.claims.proofs.Lists.{length-cross, length-joined, sumBy-map, sumBy-eq, sumBy-on, sumBy-mul}
 use Rattle.claims.proofs.Removing.{widths-are, sum-rows-are, quotient-by-nodes}
@@ -67,7 +67,7 @@ nodes-needed A R n r en er ns ts alts =
     ∙ sym (widths-are R n r en er ts alts ns)
     ∙ ap (sumBy (node-width n r)) (sym (take-all (length ns) ns (omega arith)))
 
-module _ (R : Meaning) (x : Plan) (planned : Planned R x) where
+module _ (R : Meaning) (x : Plan) where
   abbrev ts : List Term
   ts = x .terms .now
 
@@ -120,7 +120,7 @@ module _ (R : Meaning) (x : Plan) (planned : Planned R x) where
   terms-given (Dist (dn.the-variants.And i j)) h = none-given term-count (Dist (dn.the-variants.And i j)) (λ p. refl)
   terms-given (Dist (dn.the-variants.Not i)) h = none-given term-count (Dist (dn.the-variants.Not i)) (λ p. refl)
   terms-given (Dist (dn.the-variants.Sum t r)) h =
-      ap (sumBy (λ l. length (terms-in l))) (sum-rows-are R x planned t r) ∙ sum-terms t (entries ts r) (rows R) ∙ ap₂ _*_ (length-entries ts r (h .within)) (rows-targets R)
+      ap (sumBy (λ l. length (terms-in l))) (sum-rows-are R x t r) ∙ sum-terms t (entries ts r) (rows R) ∙ ap₂ _*_ (length-entries ts r (h .within)) (rows-targets R)
 
   alternatives-given : (n : Node) → Fit R x n → sumBy (λ l. length (alternatives-in l)) (node-lines R x n) ≡ alternative-need (has (x .shared)) R n
   unfolding new-line

@@ -20,5 +20,5 @@ returns g c =
     let q = c .put-sums-along .ensures in
     record {
       lent = (q .lent .0 ∙ h .lent .0, q .lent .1 ∙ h .lent .1);
-      wrote = λ alts. laid-more (stored (table (c .args .nodes .now)) (table (c .args .terms .now)) alts) _ _ (map (λ p. f (point R p)) (counting 0 (R .states))) (map f (joined (moves-of R) (counting 0 (R .states)))) _ (h .wrote alts) (q .wrote alts) (sum-lines-are R x (c .pre .planned) (c .args .threshold) (c .args .run));
+      wrote = λ alts. laid-more (stored (table (c .args .nodes .now)) (table (c .args .terms .now)) alts) _ _ (map (λ p. f (point R p)) (counting 0 (R .states))) (map f (joined (moves-of R) (counting 0 (R .states)))) _ (h .wrote alts) (q .wrote alts) (sum-lines-are R x (c .args .threshold) (c .args .run));
     }
