@@ -7,13 +7,13 @@ ghost use Rattle.std.specs.shelf.Lists.{sumBy};
 ghost use Rattle.systems.specs.Actions.{has};
 ghost use Rattle.claims.specs.Plans.{topped, targets-on, targets-from, all-targets, step-need, steps-need, term-need, alternative-need};
 ghost use Rattle.claims.specs.Removals.{lacks as lacksRoom};
+use crate::plan::ACTIONS;
 use formulas::node::DistNode;
 use formulas::node::Node;
 use formulas::node::StateNode;
 use systems::actions::ActionSet;
 use systems::system::System;
 
-const ACTIONS: u32 = 32;
 // The most entries that a table may use.
 const MOST_ENTRIES: u64 = 1048576;
 

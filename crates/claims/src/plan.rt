@@ -10,7 +10,7 @@ use formulas::node::Term;
 use systems::actions::ActionSet;
 use systems::system::System;
 
-const ACTIONS: u32 = 32;
+pub(crate) const ACTIONS: u32 = 32;
 // The number of lines is kept for every 32nd node.
 const BLOCK: usize = 32;
 

@@ -7,7 +7,7 @@ ghost use denote.Ref.{name};
 ghost use lib.ListN.{length, getD, take};
 ghost use Rattle.std.specs.Iters.{counting};
 ghost use Rattle.std.specs.shelf.Lists.{All, joined};
-ghost use Rattle.systems.specs.Meaning.{point};
+ghost use Rattle.systems.specs.Meaning.{Meaning, point};
 ghost use Rattle.systems.specs.Piles.{cross};
 ghost use Rattle.formulas.specs.Layout.{node-table, term-table, alternative-table};
 ghost use Rattle.formulas.specs.Lines.{entries};
@@ -22,6 +22,7 @@ use crate::plan::first_row;
 use crate::plan::offset;
 use crate::plan::place;
 use crate::plan::Plan;
+use crate::plan::ACTIONS;
 use crate::spot::target;
 use crate::spot::targets;
 use crate::spot::Spot;
@@ -32,8 +33,6 @@ use formulas::node::Run;
 use formulas::node::StateNode;
 use formulas::node::Term;
 use systems::system::System;
-
-const ACTIONS: u32 = 32;
 
 // Appends the lines of the parts at the state or row `p`.
 fn put_places(plan: Plan, parts: &[u32], p: u32, out: &mut AppendList<u32>)
@@ -313,13 +312,13 @@ fn node_at(plan: Plan, node: Node, p: u32) -> Node
 }
 
 // Writes the lines of a node that is neither a step nor a sum, at each of `width` states or rows.
-fn put_plain<S: System>(system: &S, plan: Plan, node: Node, width: u32, nodes: &mut AppendList<Node>)
-    requires planned { ⌜ Planned (meaning (now system)) plan ⌝ }
+fn put_plain(plan: Plan, node: Node, width: u32, nodes: &mut AppendList<Node>)
+    requires sampling { ⌜ Sampling plan ⌝ }
     requires plain { ⌜ Plain (length (plan-nodes plan)) node ⌝ }
     requires width { ⌜ width ≡ node-width (plan .states) (plan .rows) node ⌝ }
     requires small { ⌜ width ≤ 1073741824 ⌝ }
     ensures same { λ _. ⌜ name (now (nodes .exit) .slots) ≡ name (now (nodes .entry) .slots) ⌝ }
-    ensures wrote { λ _. ⌜ ((ts : Table Term) (alts : Table ℕ) → stored (table (now (nodes .exit))) ts alts ≡ laid (stored (table (now (nodes .entry))) ts alts) (node-lines (meaning (now (system .entry))) (plan .entry) node)) ⌝ }
+    ensures wrote { λ _. ⌜ ((R : Meaning) (ts : Table Term) (alts : Table ℕ) → Planned R (plan .entry) → stored (table (now (nodes .exit))) ts alts ≡ laid (stored (table (now (nodes .entry))) ts alts) (node-lines R (plan .entry) node)) ⌝ }
 {
     for p in 0..width {
         nodes.put(node_at(plan, node, p));
@@ -334,10 +333,10 @@ fn put_state<S: System>(system: &S, plan: Plan, node: StateNode, nodes: &mut App
     ensures wrote { λ _. ⌜ ((ts : Table Term) → stored (table (now (nodes .exit))) ts (table (now (alternatives .exit))) ≡ laid (stored (table (now (nodes .entry))) ts (table (now (alternatives .entry)))) (node-lines (meaning (now (system .entry))) (plan .entry) (Node.State node))) ⌝ }
 {
     match node {
-        StateNode::Yes => put_plain(system, plan, Node::State(StateNode::Yes), plan.states, nodes),
-        StateNode::No => put_plain(system, plan, Node::State(StateNode::No), plan.states, nodes),
-        StateNode::And(i, j) => put_plain(system, plan, Node::State(StateNode::And(i, j)), plan.states, nodes),
-        StateNode::Not(i) => put_plain(system, plan, Node::State(StateNode::Not(i)), plan.states, nodes),
+        StateNode::Yes => put_plain(plan, Node::State(StateNode::Yes), plan.states, nodes),
+        StateNode::No => put_plain(plan, Node::State(StateNode::No), plan.states, nodes),
+        StateNode::And(i, j) => put_plain(plan, Node::State(StateNode::And(i, j)), plan.states, nodes),
+        StateNode::Not(i) => put_plain(plan, Node::State(StateNode::Not(i)), plan.states, nodes),
         StateNode::Step { action, moves, heres } => put_steps(system, plan, action, moves, heres, nodes, alternatives),
     }
 }
@@ -350,10 +349,10 @@ fn put_dist<S: System>(system: &S, plan: Plan, node: DistNode, nodes: &mut Appen
     ensures wrote { λ _. ⌜ ((alts : Table ℕ) → stored (table (now (nodes .exit))) (table (now (terms .exit))) alts ≡ laid (stored (table (now (nodes .entry))) (table (now (terms .entry))) alts) (node-lines (meaning (now (system .entry))) (plan .entry) (Node.Dist node))) ⌝ }
 {
     match node {
-        DistNode::Yes => put_plain(system, plan, Node::Dist(DistNode::Yes), plan.rows, nodes),
-        DistNode::No => put_plain(system, plan, Node::Dist(DistNode::No), plan.rows, nodes),
-        DistNode::And(i, j) => put_plain(system, plan, Node::Dist(DistNode::And(i, j)), plan.rows, nodes),
-        DistNode::Not(i) => put_plain(system, plan, Node::Dist(DistNode::Not(i)), plan.rows, nodes),
+        DistNode::Yes => put_plain(plan, Node::Dist(DistNode::Yes), plan.rows, nodes),
+        DistNode::No => put_plain(plan, Node::Dist(DistNode::No), plan.rows, nodes),
+        DistNode::And(i, j) => put_plain(plan, Node::Dist(DistNode::And(i, j)), plan.rows, nodes),
+        DistNode::Not(i) => put_plain(plan, Node::Dist(DistNode::Not(i)), plan.rows, nodes),
         DistNode::Sum { threshold, terms: run } => put_sums(system, plan, threshold, run, nodes, terms),
     }
 }

@@ -11,7 +11,7 @@ pub put-plain-requires : need.put-plain-requires
 put-plain-requires g c κs =
     let R = g .S·System .meaning (c .args .system .now) in
     record {
-      planned = c .pre .planned;
+      sampling = c .pre .planned .sampling;
       plain = tt;
       width = refl;
       small = omega (arith, c .pre .planned .rows, rows-small R (g .S·System·met .sound (c .args .system .now)) (c .pre .planned .narrow) (c .pre .planned .few));
@@ -21,7 +21,7 @@ pub put-plain-requires-in-No : need.put-plain-requires-in-No
 put-plain-requires-in-No g c κs =
     let R = g .S·System .meaning (c .args .system .now) in
     record {
-      planned = c .pre .planned;
+      sampling = c .pre .planned .sampling;
       plain = tt;
       width = refl;
       small = omega (arith, c .pre .planned .rows, rows-small R (g .S·System·met .sound (c .args .system .now)) (c .pre .planned .narrow) (c .pre .planned .few));
@@ -31,7 +31,7 @@ pub put-plain-requires-in-And : need.put-plain-requires-in-And
 put-plain-requires-in-And g c κs =
     let R = g .S·System .meaning (c .args .system .now) in
     record {
-      planned = c .pre .planned;
+      sampling = c .pre .planned .sampling;
       plain = subst (Fit-dist R (c .args .plan)) (c .in-And .is) (c .pre .fit);
       width = refl;
       small = omega (arith, c .pre .planned .rows, rows-small R (g .S·System·met .sound (c .args .system .now)) (c .pre .planned .narrow) (c .pre .planned .few));
@@ -41,7 +41,7 @@ pub put-plain-requires-in-Not : need.put-plain-requires-in-Not
 put-plain-requires-in-Not g c κs =
     let R = g .S·System .meaning (c .args .system .now) in
     record {
-      planned = c .pre .planned;
+      sampling = c .pre .planned .sampling;
       plain = subst (Fit-dist R (c .args .plan)) (c .in-Not .is) (c .pre .fit);
       width = refl;
       small = omega (arith, c .pre .planned .rows, rows-small R (g .S·System·met .sound (c .args .system .now)) (c .pre .planned .narrow) (c .pre .planned .few));
@@ -53,7 +53,7 @@ returns-in-Yes g c =
     let ts = table (c .args .terms .now) in
     record {
       lent = (c .put-plain .ensures .same, refl);
-      wrote = λ alts. c .put-plain .ensures .wrote ts alts ∙ ap (λ n. laid (stored (table (c .args .nodes .now)) ts alts) (node-lines R (c .args .plan) (Dist n))) (sym (c .in-Yes .is));
+      wrote = λ alts. c .put-plain .ensures .wrote R ts alts (c .pre .planned) ∙ ap (λ n. laid (stored (table (c .args .nodes .now)) ts alts) (node-lines R (c .args .plan) (Dist n))) (sym (c .in-Yes .is));
     }
 
 pub returns-in-No : need.returns-in-No
@@ -62,7 +62,7 @@ returns-in-No g c =
     let ts = table (c .args .terms .now) in
     record {
       lent = (c .put-plain-in-No .ensures .same, refl);
-      wrote = λ alts. c .put-plain-in-No .ensures .wrote ts alts ∙ ap (λ n. laid (stored (table (c .args .nodes .now)) ts alts) (node-lines R (c .args .plan) (Dist n))) (sym (c .in-No .is));
+      wrote = λ alts. c .put-plain-in-No .ensures .wrote R ts alts (c .pre .planned) ∙ ap (λ n. laid (stored (table (c .args .nodes .now)) ts alts) (node-lines R (c .args .plan) (Dist n))) (sym (c .in-No .is));
     }
 
 pub returns-in-And : need.returns-in-And
@@ -71,7 +71,7 @@ returns-in-And g c =
     let ts = table (c .args .terms .now) in
     record {
       lent = (c .put-plain-in-And .ensures .same, refl);
-      wrote = λ alts. c .put-plain-in-And .ensures .wrote ts alts ∙ ap (λ n. laid (stored (table (c .args .nodes .now)) ts alts) (node-lines R (c .args .plan) (Dist n))) (sym (c .in-And .is));
+      wrote = λ alts. c .put-plain-in-And .ensures .wrote R ts alts (c .pre .planned) ∙ ap (λ n. laid (stored (table (c .args .nodes .now)) ts alts) (node-lines R (c .args .plan) (Dist n))) (sym (c .in-And .is));
     }
 
 pub returns-in-Not : need.returns-in-Not
@@ -80,7 +80,7 @@ returns-in-Not g c =
     let ts = table (c .args .terms .now) in
     record {
       lent = (c .put-plain-in-Not .ensures .same, refl);
-      wrote = λ alts. c .put-plain-in-Not .ensures .wrote ts alts ∙ ap (λ n. laid (stored (table (c .args .nodes .now)) ts alts) (node-lines R (c .args .plan) (Dist n))) (sym (c .in-Not .is));
+      wrote = λ alts. c .put-plain-in-Not .ensures .wrote R ts alts (c .pre .planned) ∙ ap (λ n. laid (stored (table (c .args .nodes .now)) ts alts) (node-lines R (c .args .plan) (Dist n))) (sym (c .in-Not .is));
     }
 
 pub returns-in-Sum : need.returns-in-Sum

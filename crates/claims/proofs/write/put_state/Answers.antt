@@ -10,7 +10,7 @@ returns-in-Yes g c =
     let alts = table (c .args .alternatives .now) in
     record {
       lent = (c .put-plain .ensures .same, refl);
-      wrote = λ ts. c .put-plain .ensures .wrote ts alts ∙ ap (λ n. laid (stored (table (c .args .nodes .now)) ts alts) (node-lines R (c .args .plan) (State n))) (sym (c .in-Yes .is));
+      wrote = λ ts. c .put-plain .ensures .wrote R ts alts (c .pre .planned) ∙ ap (λ n. laid (stored (table (c .args .nodes .now)) ts alts) (node-lines R (c .args .plan) (State n))) (sym (c .in-Yes .is));
     }
 
 pub returns-in-No : need.returns-in-No
@@ -19,7 +19,7 @@ returns-in-No g c =
     let alts = table (c .args .alternatives .now) in
     record {
       lent = (c .put-plain-in-No .ensures .same, refl);
-      wrote = λ ts. c .put-plain-in-No .ensures .wrote ts alts ∙ ap (λ n. laid (stored (table (c .args .nodes .now)) ts alts) (node-lines R (c .args .plan) (State n))) (sym (c .in-No .is));
+      wrote = λ ts. c .put-plain-in-No .ensures .wrote R ts alts (c .pre .planned) ∙ ap (λ n. laid (stored (table (c .args .nodes .now)) ts alts) (node-lines R (c .args .plan) (State n))) (sym (c .in-No .is));
     }
 
 pub returns-in-And : need.returns-in-And
@@ -28,7 +28,7 @@ returns-in-And g c =
     let alts = table (c .args .alternatives .now) in
     record {
       lent = (c .put-plain-in-And .ensures .same, refl);
-      wrote = λ ts. c .put-plain-in-And .ensures .wrote ts alts ∙ ap (λ n. laid (stored (table (c .args .nodes .now)) ts alts) (node-lines R (c .args .plan) (State n))) (sym (c .in-And .is));
+      wrote = λ ts. c .put-plain-in-And .ensures .wrote R ts alts (c .pre .planned) ∙ ap (λ n. laid (stored (table (c .args .nodes .now)) ts alts) (node-lines R (c .args .plan) (State n))) (sym (c .in-And .is));
     }
 
 pub returns-in-Not : need.returns-in-Not
@@ -37,7 +37,7 @@ returns-in-Not g c =
     let alts = table (c .args .alternatives .now) in
     record {
       lent = (c .put-plain-in-Not .ensures .same, refl);
-      wrote = λ ts. c .put-plain-in-Not .ensures .wrote ts alts ∙ ap (λ n. laid (stored (table (c .args .nodes .now)) ts alts) (node-lines R (c .args .plan) (State n))) (sym (c .in-Not .is));
+      wrote = λ ts. c .put-plain-in-Not .ensures .wrote R ts alts (c .pre .planned) ∙ ap (λ n. laid (stored (table (c .args .nodes .now)) ts alts) (node-lines R (c .args .plan) (State n))) (sym (c .in-Not .is));
     }
 
 pub returns-in-Step : need.returns-in-Step
