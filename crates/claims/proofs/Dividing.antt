@@ -35,12 +35,12 @@ use Rattle.claims.specs.declared.plan.Plan.{Plan}
 use Rattle.claims.specs.declared.tables.Tables.{Tables}
 use Rattle.claims.specs.Claims.{Front, lines-in}
 use Rattle.claims.specs.Divisions.{table-quotient, divided, Dividable, Admitted}
-use Rattle.claims.specs.Quotient.{quotient}
+use Rattle.claims.specs.Quotient.{rows, quotient}
 use Rattle.claims.specs.Layings.{Room}
-use Rattle.claims.specs.Plans.{plan-nodes, Fit, Light-term, topped, term-need, alternative-need}
+use Rattle.claims.specs.Plans.{width-before, plan-nodes, Fit, Light-term, topped, term-need, alternative-need}
 use Rattle.claims.specs.Removals.{remainder, lacks, too-short}
 use Rattle.claims.proofs.Judging.{state-inside}
-use Rattle.claims.proofs.Sizes.{terms-needed, alternatives-needed}
+use Rattle.claims.proofs.Sizes.{nodes-needed, terms-needed, alternatives-needed}
 use Rattle.claims.proofs.Totals.{no-term}
 
 -- a number up to 1,000 × m, times the mass
@@ -48,7 +48,7 @@ weighed : (m M c : ℕ) → m * M ≤ 1000000000000000 → c ≤ 1000 * m → c 
 weighed m M c h l = omega (arith, mul-le-mul-right M l, mul-assoc 1000 m M)
 
 -- what is right with a node makes it fit
-pub fit-from-right : (R : Meaning) (x : Plan) (m i : ℕ) (n : Node) → m * R .mass ≤ 1000000000000000 → i < length (plan-nodes x) → Right (x .terms .now) (x .alternatives .now) m i n → Fit R x n
+fit-from-right : (R : Meaning) (x : Plan) (m i : ℕ) (n : Node) → m * R .mass ≤ 1000000000000000 → i < length (plan-nodes x) → Right (x .terms .now) (x .alternatives .now) m i n → Fit R x n
 fit-from-right R x m i (State sn.the-variants.Yes) h l r = tt
 fit-from-right R x m i (State sn.the-variants.No) h l r = tt
 fit-from-right R x m i (State (sn.the-variants.And j k)) h l r = (omega (arith, r .0), omega (arith, r .1))
@@ -75,7 +75,7 @@ fit-from-right R x m i (Dist (dn.the-variants.Sum t run)) h l r =
     }
 
 -- a count that has come to its end lacks room as well
-pub lacks-topped : (need n len : ℕ) → n ≡ topped need → lacks n len ≡ lacks need len
+lacks-topped : (need n len : ℕ) → n ≡ topped need → lacks n len ≡ lacks need len
 lacks-topped need n len e =
     ⊎-elim
     (λ l.
@@ -86,13 +86,13 @@ lacks-topped need n len e =
     (cases-lt 18446744073709551615 need)
 
 -- with room, it has not come to its end
-pub enough : (need n len : ℕ) → lacks n len ≡ false → (n ≤ len) × (n ≤ 1048576)
-enough need n len e =
+pub enough : (n len : ℕ) → lacks n len ≡ false → (n ≤ len) × (n ≤ 1048576)
+enough n len e =
     let tests = or-parts (ltb len n) (ltb 1048576 n) e in
     (ltb-false len n (tests .0), ltb-false 1048576 n (tests .1))
 
-pub exact-need : (need n len : ℕ) → n ≡ topped need → lacks n len ≡ false → n ≡ need
-exact-need need n len e l = let few = enough need n len l .1 in grind arith
+exact-need : (need n len : ℕ) → n ≡ topped need → lacks n len ≡ false → n ≡ need
+exact-need need n len e l = let few = enough n len l .1 in grind arith
 
 module _ (Q : Formula) (nodes terms alternatives : ℕ) where
   pub short-nodes : lacks (length (Q .lines)) nodes ≡ true → _≡_ {A = Option (Fills × ℕ)} None (divided Q nodes terms alternatives)
@@ -106,9 +106,9 @@ module _ (Q : Formula) (nodes terms alternatives : ℕ) where
 
   pub all-long : lacks (length (Q .lines)) nodes ≡ false → lacks (length (term-table (Q .lines))) terms ≡ false → lacks (length (alternative-table (Q .lines))) alternatives ≡ false → Room (Q .lines) nodes terms alternatives
   all-long n t a =
-      let en = enough 0 _ nodes n in
-      let et = enough 0 _ terms t in
-      let ea = enough 0 _ alternatives a in
+      let en = enough _ nodes n in
+      let et = enough _ terms t in
+      let ea = enough _ alternatives a in
       record { nodes-fit = en .0; terms-fit = et .0; alternatives-fit = ea .0; few-nodes = en .1; few-terms = et .1; few-alternatives = ea .1 }
 
   pub divided-is : (f : Fills) (root : ℕ) → f .nodes ≡ length (Q .lines) → f .terms ≡ length (term-table (Q .lines)) → f .alternatives ≡ length (alternative-table (Q .lines)) → root ≡ Q .root → lacks (length (Q .lines)) nodes ≡ false → lacks (length (term-table (Q .lines))) terms ≡ false → lacks (length (alternative-table (Q .lines))) alternatives ≡ false → _≡_ {A = Option (Fills × ℕ)} (Some (f, root)) (divided Q nodes terms alternatives)
@@ -182,14 +182,34 @@ dividable R c t u f root m admitted front ef er em =
 
 -- how many terms and alternatives are needed
 module _ (R : Meaning) (t : Tables) (root m : ℕ) (A : ActionSet) (d : Dividable R t root m) where
-  abbrev pub plan : Plan
+  abbrev plan : Plan
   plan = record { nodes = t .nodes; terms = t .terms; alternatives = t .alternatives; shared = A; states = 0; rows = 0; offsets = t .alternatives; firsts = t .alternatives }
 
   pub fit : (i : ℕ) (n : Node) → i < length (t .nodes .now) → Fit R plan (getD (t .nodes .now) i n)
   fit i n h = fit-from-right R plan m i (getD (t .nodes .now) i n) (d .light) h (d .right i n h)
 
-  pub terms-left : length (term-table (table-quotient A R t root .lines)) ≡ sumBy (term-need R) (t .nodes .now)
+  terms-left : length (term-table (table-quotient A R t root .lines)) ≡ sumBy (term-need R) (t .nodes .now)
   terms-left = terms-needed R plan fit
 
-  pub alternatives-left : length (alternative-table (table-quotient A R t root .lines)) ≡ sumBy (alternative-need (has A) R) (t .nodes .now)
+  alternatives-left : length (alternative-table (table-quotient A R t root .lines)) ≡ sumBy (alternative-need (has A) R) (t .nodes .now)
   alternatives-left = alternatives-needed R plan fit
+
+  -- each table lacks room where the count says so
+  pub lacks-nodes : (n r : ℕ) → n ≡ R .states → r ≡ length (rows R) → (b : Bool) (count len : ℕ) → count ≡ width-before n r (t .nodes .now) (length (t .nodes .now)) → b ≡ lacks count len → lacks (length (table-quotient A R t root .lines)) len ≡ b
+  lacks-nodes n r en er b count len e l = ap (λ k. lacks k len) (nodes-needed (has A) R n r en er (t .nodes .now) (t .terms .now) (t .alternatives .now) ∙ sym e) ∙ sym l
+
+  pub lacks-terms : (b : Bool) (count len : ℕ) → count ≡ topped (sumBy (term-need R) (t .nodes .now)) → b ≡ lacks count len → lacks (length (term-table (table-quotient A R t root .lines))) len ≡ b
+  lacks-terms b count len e l = ap (λ k. lacks k len) terms-left ∙ sym (lacks-topped (sumBy (term-need R) (t .nodes .now)) count len e) ∙ sym l
+
+  pub lacks-alternatives : (b : Bool) (count len : ℕ) → count ≡ topped (sumBy (alternative-need (has A) R) (t .nodes .now)) → b ≡ lacks count len → lacks (length (alternative-table (table-quotient A R t root .lines))) len ≡ b
+  lacks-alternatives b count len e l = ap (λ k. lacks k len) alternatives-left ∙ sym (lacks-topped (sumBy (alternative-need (has A) R) (t .nodes .now)) count len e) ∙ sym l
+
+  -- with room, the counts are exact
+  pub nodes-exact : (n r : ℕ) → n ≡ R .states → r ≡ length (rows R) → (count : ℕ) → count ≡ width-before n r (t .nodes .now) (length (t .nodes .now)) → count ≡ length (table-quotient A R t root .lines)
+  nodes-exact n r en er count e = e ∙ sym (nodes-needed (has A) R n r en er (t .nodes .now) (t .terms .now) (t .alternatives .now))
+
+  pub terms-exact : (count len : ℕ) → count ≡ topped (sumBy (term-need R) (t .nodes .now)) → false ≡ lacks count len → count ≡ length (term-table (table-quotient A R t root .lines))
+  terms-exact count len e l = exact-need (sumBy (term-need R) (t .nodes .now)) count len e (sym l) ∙ sym terms-left
+
+  pub alternatives-exact : (count len : ℕ) → count ≡ topped (sumBy (alternative-need (has A) R) (t .nodes .now)) → false ≡ lacks count len → count ≡ length (alternative-table (table-quotient A R t root .lines))
+  alternatives-exact count len e l = exact-need (sumBy (alternative-need (has A) R) (t .nodes .now)) count len e (sym l) ∙ sym alternatives-left

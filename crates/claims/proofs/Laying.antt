@@ -20,7 +20,7 @@ use Rattle.formulas.specs.Append.{raised}
 use Rattle.formulas.specs.Layout.{run, terms-in, alternatives-in, node, node-table, term-table, alternative-table}
 use Rattle.formulas.specs.Lines.{Line, constant, both, non, step, sum}
 use Rattle.claims.specs.Layings.{Table, table, appended, extended, Store, stored, run-between, node-in, lay, laid, Room}
-use Rattle.claims.specs.Removals.{over}
+use Rattle.claims.specs.Verdicts.{over}
 
 module _ {X : Type 0} where
   pub put-is : (l m : AppendList X) (x y : X) → x ≡ y → m .fill ≡ raised (l .fill) 1 → now (m .slots) ≡ set (now (l .slots)) (l .fill) x → table m ≡ appended (table l) y

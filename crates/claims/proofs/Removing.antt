@@ -16,7 +16,9 @@ use Rattle.systems.specs.Meaning.{Meaning, Move, Sound, point}
 use Rattle.systems.specs.Piles.{cross}
 use Rattle.formulas.specs.declared.node.Node.{Node}
 use Rattle.formulas.specs.declared.node.Node.the-variants.{State, Dist}
+use Rattle.formulas.specs.declared.node.StateNode.{StateNode}
 use Rattle.formulas.specs.declared.node.StateNode as sn
+use Rattle.formulas.specs.declared.node.DistNode.{DistNode}
 use Rattle.formulas.specs.declared.node.DistNode as dn
 use Rattle.formulas.specs.declared.node.Run.{Run}
 use Rattle.formulas.specs.declared.node.Term.{Term}
@@ -24,7 +26,7 @@ use Rattle.formulas.specs.Lines.{Line, step, sum, sort, line, lines, entries}
 use Rattle.claims.specs.declared.plan.Plan.{Plan}
 use Rattle.claims.specs.Layings.{Table, appended, Store, stored, lay}
 use Rattle.claims.specs.Quotient.{moves-of, rows, row, move-rows, width, place, new-step, new-term, new-line, new-lines}
-use Rattle.claims.specs.Plans.{node-width, width-before, plan-nodes, plan-lines, place-in, Planned, moved, Plain, node-line, node-lines, plan-quotient, sum-line}
+use Rattle.claims.specs.Plans.{node-width, width-before, plan-nodes, plan-lines, place-in, Planned, moved, Fit-state, Fit-dist, Plain-state, Plain-dist, Plain, node-line, node-lines, plan-quotient, sum-line}
 
 -- the entries of a run, as a part of the table
 abbrev pub whole : {X : Type 0} → List X → Run → List X
@@ -32,6 +34,21 @@ whole xs r = take (r .first + r .count - r .first) (drop (r .first) xs)
 
 pub cut : {X : Type 0} (xs : List X) (r : Run) → whole xs r ≡ entries xs r
 cut xs r = ap (λ n. take n (drop (r .first) xs)) (omega arith)
+
+-- a node that fits and is no step, or no sum, is plain
+pub plain-state : (x : Plan) (n : StateNode) → Fit-state x n → ((a : ℕ) (ms hs : Run) → n ≡ sn.the-variants.Step a ms hs → ⊥) → Plain-state (length (plan-nodes x)) n
+plain-state x sn.the-variants.Yes fit no-step = tt
+plain-state x sn.the-variants.No fit no-step = tt
+plain-state x (sn.the-variants.And i j) fit no-step = fit
+plain-state x (sn.the-variants.Not i) fit no-step = fit
+plain-state x (sn.the-variants.Step a ms hs) fit no-step = absurd (no-step a ms hs refl)
+
+pub plain-dist : (R : Meaning) (x : Plan) (n : DistNode) → Fit-dist R x n → ((t : ℕ) (r : Run) → n ≡ dn.the-variants.Sum t r → ⊥) → Plain-dist (length (plan-nodes x)) n
+plain-dist R x dn.the-variants.Yes fit no-sum = tt
+plain-dist R x dn.the-variants.No fit no-sum = tt
+plain-dist R x (dn.the-variants.And i j) fit no-sum = fit
+plain-dist R x (dn.the-variants.Not i) fit no-sum = fit
+plain-dist R x (dn.the-variants.Sum t r) fit no-sum = absurd (no-sum t r refl)
 
 -- as many lines as nodes give, where there are n states and r rows
 module _ (R : Meaning) (n r : ℕ) (en : n ≡ R .states) (er : r ≡ length (rows R)) (ts : List Term) (alts : List ℕ) where

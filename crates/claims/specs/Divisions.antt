@@ -18,7 +18,8 @@ use Rattle.claims.specs.declared.claim.Claim.{Claim}
 use Rattle.claims.specs.declared.tables.Tables.{Tables}
 use Rattle.claims.specs.Claims.{stands-in}
 use Rattle.claims.specs.Quotient.{quotient}
-use Rattle.claims.specs.Removals.{too-short, over}
+use Rattle.claims.specs.Removals.{too-short}
+use Rattle.claims.specs.Verdicts.{over}
 
 -- the quotient of the formula that fills the tables
 abbrev pub table-quotient : ActionSet → Meaning → Tables → ℕ → Formula

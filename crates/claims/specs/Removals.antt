@@ -1,10 +1,9 @@
 -- What remove answers, and what it leaves in the second tables.
 use mathlib.Core.Path.{_≡_}
 use mathlib.Core.Bool.{Bool, cond, not, _||_}
-use mathlib.Core.List.{List, _++_}
+use mathlib.Core.List.{List}
 use Prim.Native.Nat.{ℕ, _*_}
 use lib.Dec.{ltb}
-use lib.ListN.{length, drop}
 use Rattle.std.specs.declared.option.Option.{Option}
 use Rattle.std.specs.declared.option.Option.the-variants.{Some, None}
 use Rattle.std.specs.declared.result.Result.{Result}
@@ -20,6 +19,7 @@ use Rattle.claims.specs.declared.fault.Refusal.{Refusal}
 use Rattle.claims.specs.declared.fault.Refusal.the-variants.{NoFormula, Large, Heavy, Short}
 use Rattle.claims.specs.Claims.{stands-in, formula}
 use Rattle.claims.specs.Quotient.{quotient}
+use Rattle.claims.specs.Verdicts.{over}
 
 -- the formula of the claim with the system R removed
 abbrev pub remainder : Meaning → Claim → Tables → Formula
@@ -61,10 +61,6 @@ refused (Err e) = Some (e .1)
 abbrev pub Left : Meaning → Claim → Tables → Outcome → Type 0
 Left R c t (Ok x) = Removed R c t (x .0) (x .1)
 Left R c t (Err e) = e .0 ≡ c
-
--- a table that begins with these entries, and goes on as it was
-abbrev pub over : {X : Type 0} → List X → List X → List X
-over front old = front ++ drop (length front) old
 
 -- a second table after remove: written over, or as it was
 abbrev pub after : {X : Type 0} → Outcome → List X → List X → List X

@@ -49,8 +49,8 @@ truth-bytes M c t = bytes (truths M (lines-in (c .fills) t)) (M .states) (c .fil
 abbrev pub row-bytes : Claim → List ℕ
 row-bytes c = replicate (c .fills .nodes) 0
 
--- a table that begins with these bytes, and goes on as it was
-abbrev pub over : List ℕ → List ℕ → List ℕ
+-- a table that begins with these entries, and goes on as it was
+abbrev pub over : {X : Type 0} → List X → List X → List X
 over front old = front ++ drop (length front) old
 
 -- a table after judge: written over if there is a verdict, else as it was

@@ -47,6 +47,14 @@ fn divide<S: System>(used: Tables, root: u32, mass: u64, shared: ActionSet, syst
     if lacks(node_need, nodes.len()) {
         return None;
     }
+    let term_need = terms_need(system, used.nodes);
+    if lacks(term_need, terms.len()) {
+        return None;
+    }
+    let alternative_need = alternatives_need(system, shared, used.nodes);
+    if lacks(alternative_need, alternatives.len()) {
+        return None;
+    }
     let plan = Plan {
         nodes: used.nodes,
         terms: used.terms,
@@ -57,14 +65,6 @@ fn divide<S: System>(used: Tables, root: u32, mass: u64, shared: ActionSet, syst
         offsets: &offsets,
         firsts: &firsts,
     };
-    let term_need = terms_need(system, used.nodes);
-    if lacks(term_need, terms.len()) {
-        return None;
-    }
-    let alternative_need = alternatives_need(system, shared, used.nodes);
-    if lacks(alternative_need, alternatives.len()) {
-        return None;
-    }
     write(system, plan, nodes, terms, alternatives);
     let fills = Fills {
         nodes: node_need as u32,

@@ -15,7 +15,7 @@ ghost use Rattle.formulas.specs.Right.{Right-step};
 ghost use Rattle.claims.specs.Layings.{Room, Table, table, extended, stored, store, lay, laid};
 ghost use Rattle.claims.specs.Plans.{plan-nodes, plan-lines, place-in, Sampling, Planned, Light-term, Light-sum, Fit-state, Fit-dist, Fit, plan-quotient, moved-state, moved-dist, moved, Plain-state, Plain-dist, Plain, node-width, node-line, node-lines, sum-line};
 ghost use Rattle.claims.specs.Quotient.{moves-of, new-term};
-ghost use Rattle.claims.specs.Removals.{over};
+ghost use Rattle.claims.specs.Verdicts.{over};
 ghost use Rattle.claims.specs.Spots.{spot-of, Placed};
 ghost use Rattle.claims.specs.Sums.{no-target};
 use crate::plan::first_row;
@@ -333,11 +333,8 @@ fn put_state<S: System>(system: &S, plan: Plan, node: StateNode, nodes: &mut App
     ensures wrote { λ _. ⌜ ((ts : Table Term) → stored (table (now (nodes .exit))) ts (table (now (alternatives .exit))) ≡ laid (stored (table (now (nodes .entry))) ts (table (now (alternatives .entry)))) (node-lines (meaning (now (system .entry))) (plan .entry) (Node.State node))) ⌝ }
 {
     match node {
-        StateNode::Yes => put_plain(plan, Node::State(StateNode::Yes), plan.states, nodes),
-        StateNode::No => put_plain(plan, Node::State(StateNode::No), plan.states, nodes),
-        StateNode::And(i, j) => put_plain(plan, Node::State(StateNode::And(i, j)), plan.states, nodes),
-        StateNode::Not(i) => put_plain(plan, Node::State(StateNode::Not(i)), plan.states, nodes),
         StateNode::Step { action, moves, heres } => put_steps(system, plan, action, moves, heres, nodes, alternatives),
+        _ => put_plain(plan, Node::State(node), plan.states, nodes),
     }
 }
 
@@ -349,11 +346,8 @@ fn put_dist<S: System>(system: &S, plan: Plan, node: DistNode, nodes: &mut Appen
     ensures wrote { λ _. ⌜ ((alts : Table ℕ) → stored (table (now (nodes .exit))) (table (now (terms .exit))) alts ≡ laid (stored (table (now (nodes .entry))) (table (now (terms .entry))) alts) (node-lines (meaning (now (system .entry))) (plan .entry) (Node.Dist node))) ⌝ }
 {
     match node {
-        DistNode::Yes => put_plain(plan, Node::Dist(DistNode::Yes), plan.rows, nodes),
-        DistNode::No => put_plain(plan, Node::Dist(DistNode::No), plan.rows, nodes),
-        DistNode::And(i, j) => put_plain(plan, Node::Dist(DistNode::And(i, j)), plan.rows, nodes),
-        DistNode::Not(i) => put_plain(plan, Node::Dist(DistNode::Not(i)), plan.rows, nodes),
         DistNode::Sum { threshold, terms: run } => put_sums(system, plan, threshold, run, nodes, terms),
+        _ => put_plain(plan, Node::Dist(node), plan.rows, nodes),
     }
 }
 

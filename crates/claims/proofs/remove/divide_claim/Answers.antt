@@ -7,7 +7,7 @@ use Rattle.formulas.specs.declared.node.Fills.{Fills}
 use Rattle.formulas.specs.Layout.{node-table, term-table, alternative-table}
 use Rattle.formulas.specs.Lines.{Formula}
 use Rattle.claims.specs.Divisions.{table-quotient}
-use Rattle.claims.specs.Removals.{over}
+use Rattle.claims.specs.Verdicts.{over}
 use Rattle.claims.proofs.Soundness.{some-mass}
 use Rattle.claims.proofs.Dividing.{remainder-is, refused-not, refused-short, found, few-found, dividable}
 use Rattle.claims.proofs.remove.divide_claim.Needs as need

@@ -3,7 +3,7 @@ use borrow.Author.Needs.{needs}
 use Rattle.formulas.specs.Layout.{node-table, term-table, alternative-table}
 use Rattle.claims.specs.Layings.{store, laid}
 use Rattle.claims.specs.Plans.{plan-quotient}
-use Rattle.claims.specs.Removals.{over}
+use Rattle.claims.specs.Verdicts.{over}
 use Rattle.claims.proofs.Laying.{starts-are, laid-over-nodes, laid-over-terms, laid-over-alternatives}
 use Rattle.claims.proofs.write.write.Needs as need
 
