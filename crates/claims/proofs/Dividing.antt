@@ -1,15 +1,14 @@
 -- The tests of remove, and what they tell.
 use mathlib.Core.Path.{_≡_, refl, sym, ap, ap₂, _∙_, subst₂}
-use mathlib.Core.Bool.{Bool, true, false, cond, not, _&&_, _||_}
-use mathlib.Core.List.{List}
+use mathlib.Core.Bool.{Bool, true, false, cond, not, _&&_}
 use mathlib.Core.Logic.{⊎-elim}
-use Prim.Native.Nat.{ℕ, _+_, _*_, _≤_, _<_, min}
-use native.Mathlib.Nat.{mul-assoc, mul-le-mul-right, mul-zero}
+use Prim.Native.Nat.{ℕ, _*_, _≤_, _<_}
+use native.Mathlib.Nat.{mul-assoc, mul-le-mul-right}
 use native.Mathlib.Omega.{arith}
 use lib.Dec.{ltb, leb}
 use lib.ListN.{length, getD, take}
 use Rattle.std.proofs.shelf.Lists.{length-take}
-use Rattle.std.specs.shelf.Lists.{sumBy, All}
+use Rattle.std.specs.shelf.Lists.{sumBy}
 use Rattle.std.specs.declared.option.Option.{Option}
 use Rattle.std.specs.declared.option.Option.the-variants.{Some, None}
 use Rattle.std.proofs.shelf.Elements.{all-getD, all-from-getD, all-weaker}
@@ -23,9 +22,8 @@ use Rattle.formulas.specs.declared.node.Node.{Node}
 use Rattle.formulas.specs.declared.node.Node.the-variants.{State, Dist}
 use Rattle.formulas.specs.declared.node.StateNode as sn
 use Rattle.formulas.specs.declared.node.DistNode as dn
-use Rattle.formulas.specs.declared.node.Term.{Term}
 use Rattle.formulas.specs.Layout.{fills, term-table, alternative-table}
-use Rattle.formulas.specs.Lines.{Line, Formula, lines, entries}
+use Rattle.formulas.specs.Lines.{Formula, lines, entries}
 use Rattle.formulas.specs.Right.{Right, All-right}
 use Rattle.formulas.specs.Stands.{isState, walk, stands}
 use Rattle.claims.specs.declared.claim.Claim.{Claim}
@@ -79,9 +77,9 @@ lacks-topped : (need n len : ℕ) → n ≡ topped need → lacks n len ≡ lack
 lacks-topped need n len e =
     ⊎-elim
     (λ l.
-      let high : 1048576 < n = grind arith in
-      let higher : 1048576 < need = omega arith in
-      or-right (ltb len n) (ltb 1048576 n) (lt-ltb 1048576 n high) ∙ sym (or-right (ltb len need) (ltb 1048576 need) (lt-ltb 1048576 need higher)))
+    let high : 1048576 < n = grind arith in
+    let higher : 1048576 < need = omega arith in
+    or-right (ltb len n) (ltb 1048576 n) (lt-ltb 1048576 n high) ∙ sym (or-right (ltb len need) (ltb 1048576 need) (lt-ltb 1048576 need higher)))
     (λ l. let same : n ≡ need = grind arith in ap (λ k. lacks k len) same)
     (cases-lt 18446744073709551615 need)
 

@@ -1,12 +1,11 @@
 -- Tables that are filled, entry after entry and line after line.
 use mathlib.Core.Path.{_≡_, refl, sym, ap, ap₂, _∙_}
-use mathlib.Core.List.{List, [], _∷_, _++_, map, append-assoc}
-use Prim.Native.Nat.{ℕ, suc, _+_, _-_, _≤_, _<_, min}
+use mathlib.Core.List.{List, [], _∷_, _++_, append-assoc}
+use Prim.Native.Nat.{ℕ, suc, _+_, _≤_}
 use native.Mathlib.Nat.{add-zero}
 use native.Mathlib.Omega.{arith}
 use denote.Ref.{now}
 use lib.ListN.{length, set, take, drop}
-use Rattle.std.specs.Iters.{folded}
 use Rattle.std.proofs.shelf.Lists.{length-append, take-append-drop, take-more-set, drop-set-lt, length-set}
 use Rattle.std.proofs.iter.runs.Lists.{folded-append}
 use Rattle.formulas.specs.declared.append.AppendList.{AppendList}
@@ -14,7 +13,6 @@ use Rattle.formulas.specs.declared.node.Node.{Node}
 use Rattle.formulas.specs.declared.node.Node.the-variants.{State, Dist}
 use Rattle.formulas.specs.declared.node.StateNode.the-variants.{Step}
 use Rattle.formulas.specs.declared.node.DistNode.the-variants.{Sum}
-use Rattle.formulas.specs.declared.node.Run.{Run}
 use Rattle.formulas.specs.declared.node.Term.{Term}
 use Rattle.formulas.specs.Append.{raised}
 use Rattle.formulas.specs.Layout.{run, terms-in, alternatives-in, node, node-table, term-table, alternative-table}
@@ -66,8 +64,8 @@ laid-more s u v ls ms ns e f g = f ∙ ap (λ w. laid w ms) e ∙ sym (folded-ap
 pub lay-step : (ns ms : Table Node) (ats bs cs : Table ℕ) (a : ℕ) (xs ys : List ℕ) (l : Line) → bs ≡ extended ats xs → cs ≡ extended bs ys → ms ≡ appended ns (State (Step a (run-between ats bs) (run-between bs cs))) → l ≡ step a xs ys → (ts : Table Term) → stored ms ts cs ≡ lay (stored ns ts ats) l
 lay-step ns ms ats bs cs a xs ys l e f g h ts =
     ap₂ (λ m c. stored m ts c)
-      (g ∙ ap₂ (λ b c. appended ns (State (Step a (run-between ats b) (run-between b c)))) e (f ∙ ap (λ b. extended b ys) e))
-      (f ∙ ap (λ b. extended b ys) e ∙ sym (folded-append appended ats xs ys))
+    (g ∙ ap₂ (λ b c. appended ns (State (Step a (run-between ats b) (run-between b c)))) e (f ∙ ap (λ b. extended b ys) e))
+    (f ∙ ap (λ b. extended b ys) e ∙ sym (folded-append appended ats xs ys))
     ∙ ap (lay (stored ns ts ats)) (sym h)
 
 pub lay-sum : (ns ms : Table Node) (ats bs : Table Term) (t : ℕ) (ks : List Term) → bs ≡ extended ats ks → ms ≡ appended ns (Dist (Sum t (run-between ats bs))) → (alts : Table ℕ) → stored ms bs alts ≡ lay (stored ns ats alts) (sum t ks)
@@ -128,8 +126,8 @@ module _ (ls : List Line) (ns : List Node) (ts : List Term) (alts : List ℕ) (u
   laid-over-nodes =
       let long = length-nodes 0 0 ls in
       over-from-start (record { slots = ns; fill = 0 }) (u .nodes) (node-table 0 0 ls) refl
-        (ap (λ (w : Store). w .nodes) e ∙ laid-nodes (starts ns ts alts) ls (omega (arith, room .few-terms)) (omega (arith, room .few-alternatives)))
-        (omega (arith, room .nodes-fit)) (omega (arith, room .few-nodes))
+      (ap (λ (w : Store). w .nodes) e ∙ laid-nodes (starts ns ts alts) ls (omega (arith, room .few-terms)) (omega (arith, room .few-alternatives)))
+      (omega (arith, room .nodes-fit)) (omega (arith, room .few-nodes))
 
   pub laid-over-terms : u .terms .slots ≡ over (term-table ls) ts
   laid-over-terms = over-from-start (record { slots = ts; fill = 0 }) (u .terms) (term-table ls) refl (ap (λ (w : Store). w .terms) e ∙ laid-terms (starts ns ts alts) ls) (room .terms-fit) (room .few-terms)

@@ -1,7 +1,7 @@
 -- The rows of a system, and the lines of a quotient, counted.
 use mathlib.Core.Path.{_≡_, refl, sym, ap, _∙_}
 use mathlib.Core.List.{List, [], _∷_, map}
-use mathlib.Core.Logic.{_⊎_, inl, inr, ⊎-elim, _≢_}
+use mathlib.Core.Logic.{_⊎_, ⊎-elim, _≢_}
 use Prim.Native.Nat.{ℕ, _+_, _*_, _/_, _%_, _≤_, _<_}
 use native.Mathlib.Nat.{suc-mul, mul-le-mul-right}
 use native.Mathlib.Omega.{arith}
@@ -37,9 +37,10 @@ module _ (R : Meaning) where
 
   -- one state more
   pub firsts-more : (firsts : List ℕ) (p next x : ℕ) → p < length firsts → next ≡ R .states + moves-before R p → Firsts R firsts p → x ≡ actions-before R p 32 → (next + x ≡ R .states + moves-before R (p + 1)) × Firsts R (set firsts p next) (p + 1)
-  firsts-more firsts p next x h e f g =
-      (omega (arith, sumBy-counting-more (λ q. length (moves-of R q)) p, length-moves p),
-       λ q l. ap (λ v. getD (set firsts p v) q 0) e ∙ fill-by-more (λ k. R .states + moves-before R k) firsts p 0 h f q l)
+  firsts-more firsts p next x h e f g = (
+    omega (arith, sumBy-counting-more (λ q. length (moves-of R q)) p, length-moves p),
+    λ q l. ap (λ v. getD (set firsts p v) q 0) e ∙ fill-by-more (λ k. R .states + moves-before R k) firsts p 0 h f q l,
+  )
 
   module _ (sound : Sound R) (narrow : R .breadth ≤ 4096) where
     pub actions-le : (p a : ℕ) → actions-before R p a ≤ a * 4096
@@ -86,10 +87,10 @@ module _ (n r : ℕ) (ns : List Node) where
       ⊎-elim
       (λ l. let other : k ≢ i / 32 = omega arith in getD-set-other offsets (i / 32) k total 0 other ∙ s k l)
       (λ l.
-        let same : k ≡ i / 32 = omega arith in
-        let at : i ≡ k * 32 = omega arith in
-        let in-range : i / 32 < length offsets = omega arith in
-        ap (λ j. getD (set offsets (i / 32) total) j 0) same ∙ getD-set-same offsets (i / 32) total 0 in-range ∙ e ∙ ap (width-before n r ns) at)
+      let same : k ≡ i / 32 = omega arith in
+      let at : i ≡ k * 32 = omega arith in
+      let in-range : i / 32 < length offsets = omega arith in
+      ap (λ j. getD (set offsets (i / 32) total) j 0) same ∙ getD-set-same offsets (i / 32) total 0 in-range ∙ e ∙ ap (width-before n r ns) at)
       (cases-lt (k * 32) i)
 
   pub sampled-there : (offsets : List ℕ) (i : ℕ) → (i % 32 ≡ 0 → ⊥) → Sampled n r ns offsets i → Sampled n r ns offsets (i + 1)

@@ -2,17 +2,17 @@
 use mathlib.Core.Path.{_≡_, refl, sym, ap, ap₂, _∙_, fun-ext}
 use mathlib.Core.Bool.{Bool, true, false, cond}
 use mathlib.Core.List.{List, [], _∷_, _++_, map}
-use Prim.Native.Nat.{ℕ, _+_, _-_, _*_, _≤_, _<_}
+use Prim.Native.Nat.{ℕ, _+_, _-_, _*_, _≤_}
 use native.Mathlib.Omega.{arith}
 use lib.ListN.{length, getD, take, drop}
 use Rattle.std.specs.Iters.{counting}
-use Rattle.std.specs.shelf.Lists.{sumBy, joined, All}
+use Rattle.std.specs.shelf.Lists.{sumBy, joined}
 use Rattle.std.proofs.shelf.Lists.{take-all, take-map, map-append, length-map, getD-map}
 use Rattle.std.proofs.shelf.Counted.{fill-by-all}
 use Rattle.std.proofs.shelf.Sums.{sumBy-cons}
 use Rattle.systems.specs.declared.system.Target.{Target}
 use Rattle.systems.specs.Actions.{has}
-use Rattle.systems.specs.Meaning.{Meaning, Move, Sound, point}
+use Rattle.systems.specs.Meaning.{Meaning, Move, point}
 use Rattle.systems.specs.Piles.{cross}
 use Rattle.formulas.specs.declared.node.Node.{Node}
 use Rattle.formulas.specs.declared.node.Node.the-variants.{State, Dist}
@@ -24,8 +24,8 @@ use Rattle.formulas.specs.declared.node.Run.{Run}
 use Rattle.formulas.specs.declared.node.Term.{Term}
 use Rattle.formulas.specs.Lines.{Line, step, sum, sort, line, lines, entries}
 use Rattle.claims.specs.declared.plan.Plan.{Plan}
-use Rattle.claims.specs.Layings.{Table, appended, Store, stored, lay}
-use Rattle.claims.specs.Quotient.{moves-of, rows, row, move-rows, width, place, new-step, new-term, new-line, new-lines}
+use Rattle.claims.specs.Layings.{Table, appended, stored, lay}
+use Rattle.claims.specs.Quotient.{moves-of, rows, move-rows, width, place, new-step, new-term, new-line, new-lines}
 use Rattle.claims.specs.Plans.{node-width, width-before, plan-nodes, plan-lines, place-in, Planned, moved, Fit-state, Fit-dist, Plain-state, Plain-dist, Plain, node-line, node-lines, plan-quotient, sum-line}
 
 -- the entries of a run, as a part of the table

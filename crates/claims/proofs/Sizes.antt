@@ -6,7 +6,7 @@ use Prim.Native.Nat.{ℕ, _+_, _*_, _≤_, _<_}
 use native.Mathlib.Omega.{arith}
 use lib.ListN.{length, getD, take, drop}
 use Rattle.std.specs.Iters.{counting}
-use Rattle.std.specs.shelf.Lists.{sumBy, joined, All}
+use Rattle.std.specs.shelf.Lists.{sumBy, joined}
 use Rattle.std.proofs.shelf.Lists.{length-append, length-map, length-drop, length-take-le, take-all}
 use Rattle.std.proofs.shelf.Sums.{sumBy-cons, sumBy-append}
 use Rattle.std.proofs.shelf.Counted.{length-counting, length-map-counting}
@@ -23,8 +23,8 @@ use Rattle.formulas.specs.declared.node.Term.{Term}
 use Rattle.formulas.specs.Layout.{terms-in, alternatives-in, term-table, alternative-table}
 use Rattle.formulas.specs.Lines.{Line, sort, line, lines, entries}
 use Rattle.claims.specs.declared.plan.Plan.{Plan}
-use Rattle.claims.specs.Quotient.{moves-of, rows, move-rows, width, place, places, move-places, new-step, new-term, new-line, new-lines, quotient-lines}
-use Rattle.claims.specs.Plans.{node-width, width-before, plan-nodes, plan-lines, plan-quotient, Fit, node-line, node-lines, sum-line, targets-on, targets-from, all-targets, step-need, term-need, alternative-need}
+use Rattle.claims.specs.Quotient.{moves-of, rows, move-rows, width, place, places, new-step, new-term, new-line, new-lines, quotient-lines}
+use Rattle.claims.specs.Plans.{node-width, width-before, plan-nodes, plan-lines, plan-quotient, Fit, node-line, node-lines, sum-line, all-targets, step-need, term-need, alternative-need}
 use Rattle.claims.specs.Rows.{no-node}
 use Rattle.claims.proofs.Lists.{length-cross, length-joined, sumBy-map, sumBy-eq, sumBy-on, sumBy-mul}
 use Rattle.claims.proofs.Removing.{widths-are, sum-rows-are, quotient-by-nodes}
@@ -91,7 +91,7 @@ module _ (R : Meaning) (x : Plan) where
       let heres = places R (plan-lines x) hs p in
       length-append (places R (plan-lines x) ms p) (crossed ++ heres)
       ∙ ap₂ _+_ (length-map ms (λ d. at d p) ∙ em)
-        (length-append crossed heres ∙ ap₂ _+_ (length-cross at ms (move-rows R p a) ∙ ap₂ _*_ em (length-counting _ k)) (length-map hs (λ d. at d p) ∙ eh))
+      (length-append crossed heres ∙ ap₂ _+_ (length-cross at ms (move-rows R p a) ∙ ap₂ _*_ em (length-counting _ k)) (length-map hs (λ d. at d p) ∙ eh))
 
   sum-terms : (t : ℕ) (ks : List Term) (mvs : List Move) → sumBy (λ l. length (terms-in l)) (map (sum-line R x t ks) mvs) ≡ length ks * sumBy length mvs
   sum-terms t ks mvs =

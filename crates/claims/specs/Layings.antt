@@ -1,6 +1,5 @@
 -- Tables that fill from the front, line by line.
-use mathlib.Core.List.{List, [], _∷_}
-use mathlib.Core.Path.{_≡_}
+use mathlib.Core.List.{List}
 use Prim.Native.Nat.{ℕ, _-_, _≤_}
 use denote.Ref.{now}
 use lib.ListN.{length, set}
@@ -58,11 +57,11 @@ node-in s (sum t ks) = Dist (Sum t (run-between (s .terms) (extended (s .terms) 
 
 -- one line more
 abbrev pub lay : Store → Line → Store
-lay s l = record
-  { nodes = appended (s .nodes) (node-in s l)
-  ; terms = extended (s .terms) (terms-in l)
-  ; alternatives = extended (s .alternatives) (alternatives-in l)
-  }
+lay s l = record {
+  nodes = appended (s .nodes) (node-in s l);
+  terms = extended (s .terms) (terms-in l);
+  alternatives = extended (s .alternatives) (alternatives-in l);
+}
 
 abbrev pub laid : Store → List Line → Store
 laid s ls = folded lay s ls

@@ -1,7 +1,7 @@
 -- Where the lines of a quotient go, and how many entries they take.
 use mathlib.Core.Path.{_≡_}
 use mathlib.Core.Bool.{Bool, cond}
-use mathlib.Core.List.{List, [], _∷_, _++_, map}
+use mathlib.Core.List.{List}
 use Prim.Native.Nat.{ℕ, _+_, _*_, _≤_, _<_, min}
 use lib.ListN.{length, getD, take}
 use Rattle.std.specs.Iters.{counting}

@@ -1,8 +1,5 @@
 // How many entries a quotient takes. Counts stop at the largest number.
 ghost use mathlib.Core.Path.{_≡_};
-ghost use mathlib.Core.Bool.{_||_};
-ghost use lib.Dec.{ltb};
-ghost use lib.ListN.{length};
 ghost use Rattle.std.specs.shelf.Lists.{sumBy};
 ghost use Rattle.systems.specs.Actions.{has};
 ghost use Rattle.claims.specs.Plans.{topped, targets-on, targets-from, all-targets, step-need, steps-need, term-need, alternative-need};
@@ -57,7 +54,11 @@ fn step_need(shared: bool, m: u32, h: u32, k: u32) -> u64
     ensures { λ r. ⌜ r ≡ topped (step-need shared m h k) ⌝ }
 {
     let both = (m as u64).saturating_mul(k as u64).saturating_add(h as u64);
-    if shared { both } else { both.saturating_add(m as u64) }
+    if shared {
+        both
+    } else {
+        both.saturating_add(m as u64)
+    }
 }
 
 // The alternatives that it gives in all states.
@@ -90,7 +91,10 @@ fn sum_need<S: System>(system: &S, node: DistNode) -> u64
         DistNode::No => 0,
         DistNode::And(_, _) => 0,
         DistNode::Not(_) => 0,
-        DistNode::Sum { threshold: _, terms } => (terms.count as u64).saturating_mul(all_targets(system)),
+        DistNode::Sum {
+            threshold: _,
+            terms,
+        } => (terms.count as u64).saturating_mul(all_targets(system)),
     }
 }
 
@@ -112,7 +116,17 @@ fn state_need<S: System>(system: &S, shared: ActionSet, node: StateNode) -> u64
         StateNode::No => 0,
         StateNode::And(_, _) => 0,
         StateNode::Not(_) => 0,
-        StateNode::Step { action, moves, heres } => steps_need(system, shared.contains(action), action, moves.count, heres.count),
+        StateNode::Step {
+            action,
+            moves,
+            heres,
+        } => steps_need(
+            system,
+            shared.contains(action),
+            action,
+            moves.count,
+            heres.count,
+        ),
     }
 }
 

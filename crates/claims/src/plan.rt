@@ -1,10 +1,10 @@
 // Where the lines of a quotient go: the rows of a system, and the places of the lines that each node gives.
 ghost use mathlib.Core.Path.{_≡_};
-ghost use Prim.Native.Nat.{ℕ, _+_, _*_, _≤_, _<_};
-ghost use lib.ListN.{length, getD};
+ghost use Prim.Native.Nat.{_+_, _*_, _≤_, _<_};
+ghost use lib.ListN.{length};
 ghost use Rattle.std.specs.Iters.{counting};
 ghost use Rattle.claims.specs.Quotient.{rows as allRows, move-rows};
-ghost use Rattle.claims.specs.Plans.{node-width, width-before, Sampled, actions-before, moves-before, Firsts, plan-nodes, place-in, Sampling, Planned};
+ghost use Rattle.claims.specs.Plans.{node-width, width-before, Sampled, actions-before, Firsts, plan-nodes, place-in, Sampling, Planned};
 use formulas::node::Node;
 use formulas::node::Term;
 use systems::actions::ActionSet;

@@ -14,12 +14,12 @@ use crate::judge::too_heavy;
 use crate::need::alternatives_need;
 use crate::need::lacks;
 use crate::need::terms_need;
+use crate::plan::Plan;
 use crate::plan::fill_firsts;
 use crate::plan::fill_offsets;
 use crate::plan::place;
-use crate::plan::Plan;
-use crate::tables::front;
 use crate::tables::Tables;
+use crate::tables::front;
 use crate::write::write;
 use formulas::node::Fills;
 use formulas::node::Node;
@@ -32,7 +32,16 @@ use systems::system::System;
 const MOST_STATES: u32 = 4096;
 
 // Writes the quotient of a formula that fills its tables, if there is room. Answers the fills and the root.
-fn divide<S: System>(used: Tables, root: u32, mass: u64, shared: ActionSet, system: &S, nodes: &mut [Node], terms: &mut [Term], alternatives: &mut [u32]) -> Option<(Fills, u32)>
+fn divide<S: System>(
+    used: Tables,
+    root: u32,
+    mass: u64,
+    shared: ActionSet,
+    system: &S,
+    nodes: &mut [Node],
+    terms: &mut [Term],
+    alternatives: &mut [u32],
+) -> Option<(Fills, u32)>
     requires { ⌜ Dividable (meaning (now system)) used root mass ⌝ }
     ensures value { λ r. ⌜ r ≡ divided (table-quotient shared (meaning (now (system .entry))) (used .entry) root) (length (now (nodes .entry))) (length (now (terms .entry))) (length (now (alternatives .entry))) ⌝ }
     ensures nodes { λ r. ⌜ now (nodes .exit) ≡ behind r (node-table 0 0 (table-quotient shared (meaning (now (system .entry))) (used .entry) root .lines)) (now (nodes .entry)) ⌝ }
@@ -75,7 +84,14 @@ fn divide<S: System>(used: Tables, root: u32, mass: u64, shared: ActionSet, syst
 }
 
 // Removes the system from a claim that passes the other tests.
-fn divide_claim<S: System>(claim: Claim, tables: Tables, system: &S, nodes: &mut [Node], terms: &mut [Term], alternatives: &mut [u32]) -> Result<(Claim, Fills), (Claim, Refusal)>
+fn divide_claim<S: System>(
+    claim: Claim,
+    tables: Tables,
+    system: &S,
+    nodes: &mut [Node],
+    terms: &mut [Term],
+    alternatives: &mut [u32],
+) -> Result<(Claim, Fills), (Claim, Refusal)>
     requires { ⌜ Admitted (meaning (now system)) claim tables ⌝ }
     ensures refused { λ r. ⌜ refused r ≡ cond (too-short (fillsOf (remainder (meaning (now (system .entry))) claim (tables .entry) .lines)) (length (now (nodes .entry))) (length (now (terms .entry))) (length (now (alternatives .entry)))) (Some Short) None ⌝ }
     ensures left { λ r. ⌜ Left (meaning (now (system .entry))) claim (tables .entry) r ⌝ }
@@ -86,7 +102,16 @@ fn divide_claim<S: System>(claim: Claim, tables: Tables, system: &S, nodes: &mut
     let used = front(claim.fills(), tables);
     let mass = claim.mass();
     let shared = claim.shared();
-    match divide(used, claim.root(), mass, shared, system, nodes, terms, alternatives) {
+    match divide(
+        used,
+        claim.root(),
+        mass,
+        shared,
+        system,
+        nodes,
+        terms,
+        alternatives,
+    ) {
         Some((fills, root)) => Ok((Claim::new(fills, root, mass * system.mass(), shared), fills)),
         None => Err((claim, Refusal::Short)),
     }
@@ -100,7 +125,14 @@ fn too_large(states: u32, breadth: u32) -> bool
 
 // Removes a system from a claim: the answer is the claim that is left and the fills of its tables, the second ones.
 // A refused claim is given back, and the second tables are as they were.
-pub fn remove<S: System>(claim: Claim, tables: Tables, system: &S, nodes: &mut [Node], terms: &mut [Term], alternatives: &mut [u32]) -> Result<(Claim, Fills), (Claim, Refusal)>
+pub fn remove<S: System>(
+    claim: Claim,
+    tables: Tables,
+    system: &S,
+    nodes: &mut [Node],
+    terms: &mut [Term],
+    alternatives: &mut [u32],
+) -> Result<(Claim, Fills), (Claim, Refusal)>
     ensures refused { λ r. ⌜ refused r ≡ refusal (meaning (now (system .entry))) claim (tables .entry) (length (now (nodes .entry))) (length (now (terms .entry))) (length (now (alternatives .entry))) ⌝ }
     ensures left { λ r. ⌜ Left (meaning (now (system .entry))) claim (tables .entry) r ⌝ }
     ensures nodes { λ r. ⌜ now (nodes .exit) ≡ after r (node-table 0 0 (remainder (meaning (now (system .entry))) claim (tables .entry) .lines)) (now (nodes .entry)) ⌝ }
@@ -109,7 +141,14 @@ pub fn remove<S: System>(claim: Claim, tables: Tables, system: &S, nodes: &mut [
 {
     let fills = claim.fills();
     let mass = claim.mass();
-    if !formula_in(fills, claim.root(), mass, tables.nodes, tables.terms, tables.alternatives) {
+    if !formula_in(
+        fills,
+        claim.root(),
+        mass,
+        tables.nodes,
+        tables.terms,
+        tables.alternatives,
+    ) {
         return Err((claim, Refusal::NoFormula));
     }
     if too_large(system.states(), system.breadth()) {

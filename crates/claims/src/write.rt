@@ -1,10 +1,10 @@
 // The lines of a quotient, as they are written to the second tables.
 ghost use mathlib.Core.Path.{_≡_};
 ghost use mathlib.Core.Bool.{cond};
-ghost use mathlib.Core.List.{List, _++_, map};
+ghost use mathlib.Core.List.{_++_, map};
 ghost use Prim.Native.Nat.{ℕ, _+_, _*_, _≤_, _<_};
 ghost use denote.Ref.{name};
-ghost use lib.ListN.{length, getD, take};
+ghost use lib.ListN.{length, getD};
 ghost use Rattle.std.specs.Iters.{counting};
 ghost use Rattle.std.specs.shelf.Lists.{All, joined};
 ghost use Rattle.systems.specs.Meaning.{Meaning, point};
@@ -18,14 +18,14 @@ ghost use Rattle.claims.specs.Quotient.{moves-of, new-term};
 ghost use Rattle.claims.specs.Verdicts.{over};
 ghost use Rattle.claims.specs.Spots.{spot-of, Placed};
 ghost use Rattle.claims.specs.Sums.{no-target};
+use crate::plan::ACTIONS;
+use crate::plan::Plan;
 use crate::plan::first_row;
 use crate::plan::offset;
 use crate::plan::place;
-use crate::plan::Plan;
-use crate::plan::ACTIONS;
+use crate::spot::Spot;
 use crate::spot::target;
 use crate::spot::targets;
-use crate::spot::Spot;
 use formulas::append::AppendList;
 use formulas::node::DistNode;
 use formulas::node::Node;
@@ -75,7 +75,15 @@ fn put_crossed(plan: Plan, parts: &[u32], first: u32, count: u32, out: &mut Appe
 }
 
 // Appends the move alternatives of a step in the state `p`: on a shared action at the moves, else at the point.
-fn put_move_parts(plan: Plan, shared: bool, parts: &[u32], p: u32, first: u32, count: u32, out: &mut AppendList<u32>)
+fn put_move_parts(
+    plan: Plan,
+    shared: bool,
+    parts: &[u32],
+    p: u32,
+    first: u32,
+    count: u32,
+    out: &mut AppendList<u32>,
+)
     requires sampling { ⌜ Sampling plan ⌝ }
     requires inside { ⌜ All (λ d. d < length (plan-nodes plan)) (now parts) ⌝ }
     requires point { ⌜ p ≤ 1073741824 ⌝ }
@@ -91,7 +99,16 @@ fn put_move_parts(plan: Plan, shared: bool, parts: &[u32], p: u32, first: u32, c
 }
 
 // Appends the here alternatives: on an action that is not shared, the old move alternatives at the moves come first.
-fn put_here_parts(plan: Plan, shared: bool, parts: &[u32], heres: &[u32], p: u32, first: u32, count: u32, out: &mut AppendList<u32>)
+fn put_here_parts(
+    plan: Plan,
+    shared: bool,
+    parts: &[u32],
+    heres: &[u32],
+    p: u32,
+    first: u32,
+    count: u32,
+    out: &mut AppendList<u32>,
+)
     requires sampling { ⌜ Sampling plan ⌝ }
     requires inside { ⌜ All (λ d. d < length (plan-nodes plan)) (now parts) ⌝ }
     requires heres { ⌜ All (λ d. d < length (plan-nodes plan)) (now heres) ⌝ }
@@ -109,7 +126,16 @@ fn put_here_parts(plan: Plan, shared: bool, parts: &[u32], heres: &[u32], p: u32
 }
 
 // Writes the line of a step in the state `p`.
-fn put_step<S: System>(system: &S, plan: Plan, p: u32, action: u32, moves: Run, heres: Run, nodes: &mut AppendList<Node>, alternatives: &mut AppendList<u32>)
+fn put_step<S: System>(
+    system: &S,
+    plan: Plan,
+    p: u32,
+    action: u32,
+    moves: Run,
+    heres: Run,
+    nodes: &mut AppendList<Node>,
+    alternatives: &mut AppendList<u32>,
+)
     requires planned { ⌜ Planned (meaning (now system)) plan ⌝ }
     requires inside { ⌜ p < meaning (now system) .states ⌝ }
     requires right { ⌜ Right-step (now (plan .alternatives)) (length (plan-nodes plan)) moves heres ⌝ }
@@ -119,20 +145,40 @@ fn put_step<S: System>(system: &S, plan: Plan, p: u32, action: u32, moves: Run, 
     let shared = plan.shared.contains(action);
     let count = system.moves(p, action);
     let row = first_row(system, plan, p, action);
-    let parts = &plan.alternatives[moves.first as usize..moves.first as usize + moves.count as usize];
-    let here_parts = &plan.alternatives[heres.first as usize..heres.first as usize + heres.count as usize];
+    let parts = &plan.alternatives[moves.first as usize..moves.first as usize
+        + moves.count as usize];
+    let here_parts = &plan.alternatives[heres.first as usize..heres.first as usize
+        + heres.count as usize];
     let first = alternatives.fill;
     put_move_parts(plan, shared, parts, p, row, count, alternatives);
     let middle = alternatives.fill;
     put_here_parts(plan, shared, parts, here_parts, p, row, count, alternatives);
     let end = alternatives.fill;
-    let moves = Run { first, count: middle - first };
-    let heres = Run { first: middle, count: end - middle };
-    nodes.put(Node::State(StateNode::Step { action, moves, heres }));
+    let moves = Run {
+        first,
+        count: middle - first,
+    };
+    let heres = Run {
+        first: middle,
+        count: end - middle,
+    };
+    nodes.put(Node::State(StateNode::Step {
+        action,
+        moves,
+        heres,
+    }));
 }
 
 // Writes the lines of a step in each state.
-fn put_steps<S: System>(system: &S, plan: Plan, action: u32, moves: Run, heres: Run, nodes: &mut AppendList<Node>, alternatives: &mut AppendList<u32>)
+fn put_steps<S: System>(
+    system: &S,
+    plan: Plan,
+    action: u32,
+    moves: Run,
+    heres: Run,
+    nodes: &mut AppendList<Node>,
+    alternatives: &mut AppendList<u32>,
+)
     requires planned { ⌜ Planned (meaning (now system)) plan ⌝ }
     requires right { ⌜ Right-step (now (plan .alternatives)) (length (plan-nodes plan)) moves heres ⌝ }
     ensures lent { λ _. ⌜ (name (now (nodes .exit) .slots) ≡ name (now (nodes .entry) .slots)) × (name (now (alternatives .exit) .slots) ≡ name (now (alternatives .entry) .slots)) ⌝ }
@@ -157,12 +203,21 @@ fn term_at<S: System>(system: &S, spot: Spot, index: u32, coefficient: u64, befo
             coefficient: coefficient * t.weight,
             node: (before + t.state as u64) as u32,
         },
-        None => Term { coefficient, node: 0 },
+        None => Term {
+            coefficient,
+            node: 0,
+        },
     }
 }
 
 // Appends the terms that a term gives: one for each target.
-fn put_targets<S: System>(system: &S, plan: Plan, spot: Spot, term: Term, out: &mut AppendList<Term>)
+fn put_targets<S: System>(
+    system: &S,
+    plan: Plan,
+    spot: Spot,
+    term: Term,
+    out: &mut AppendList<Term>,
+)
     requires planned { ⌜ Planned (meaning (now system)) plan ⌝ }
     requires placed { ⌜ Placed (meaning (now system)) spot ⌝ }
     requires light { ⌜ Light-term (meaning (now system)) (length (plan-nodes plan)) term ⌝ }
@@ -177,7 +232,13 @@ fn put_targets<S: System>(system: &S, plan: Plan, spot: Spot, term: Term, out: &
 }
 
 // Appends the terms that the terms of a sum give.
-fn put_terms<S: System>(system: &S, plan: Plan, spot: Spot, parts: &[Term], out: &mut AppendList<Term>)
+fn put_terms<S: System>(
+    system: &S,
+    plan: Plan,
+    spot: Spot,
+    parts: &[Term],
+    out: &mut AppendList<Term>,
+)
     requires planned { ⌜ Planned (meaning (now system)) plan ⌝ }
     requires placed { ⌜ Placed (meaning (now system)) spot ⌝ }
     requires light { ⌜ All (Light-term (meaning (now system)) (length (plan-nodes plan))) (now parts) ⌝ }
@@ -190,7 +251,15 @@ fn put_terms<S: System>(system: &S, plan: Plan, spot: Spot, parts: &[Term], out:
 }
 
 // Writes the line of a sum at a move or point.
-fn put_sum<S: System>(system: &S, plan: Plan, spot: Spot, threshold: u64, run: Run, nodes: &mut AppendList<Node>, terms: &mut AppendList<Term>)
+fn put_sum<S: System>(
+    system: &S,
+    plan: Plan,
+    spot: Spot,
+    threshold: u64,
+    run: Run,
+    nodes: &mut AppendList<Node>,
+    terms: &mut AppendList<Term>,
+)
     requires planned { ⌜ Planned (meaning (now system)) plan ⌝ }
     requires placed { ⌜ Placed (meaning (now system)) spot ⌝ }
     requires sum { ⌜ Light-sum (meaning (now system)) (now (plan .terms)) (length (plan-nodes plan)) threshold run ⌝ }
@@ -203,12 +272,22 @@ fn put_sum<S: System>(system: &S, plan: Plan, spot: Spot, threshold: u64, run: R
     let end = terms.fill;
     nodes.put(Node::Dist(DistNode::Sum {
         threshold: threshold * system.mass(),
-        terms: Run { first, count: end - first },
+        terms: Run {
+            first,
+            count: end - first,
+        },
     }));
 }
 
 // Writes the lines of a sum at the points of the states.
-fn put_sums_here<S: System>(system: &S, plan: Plan, threshold: u64, run: Run, nodes: &mut AppendList<Node>, terms: &mut AppendList<Term>)
+fn put_sums_here<S: System>(
+    system: &S,
+    plan: Plan,
+    threshold: u64,
+    run: Run,
+    nodes: &mut AppendList<Node>,
+    terms: &mut AppendList<Term>,
+)
     requires planned { ⌜ Planned (meaning (now system)) plan ⌝ }
     requires sum { ⌜ Light-sum (meaning (now system)) (now (plan .terms)) (length (plan-nodes plan)) threshold run ⌝ }
     ensures lent { λ _. ⌜ (name (now (nodes .exit) .slots) ≡ name (now (nodes .entry) .slots)) × (name (now (terms .exit) .slots) ≡ name (now (terms .entry) .slots)) ⌝ }
@@ -220,7 +299,16 @@ fn put_sums_here<S: System>(system: &S, plan: Plan, threshold: u64, run: Run, no
 }
 
 // Writes its lines at the moves of a state on an action.
-fn put_sums_on<S: System>(system: &S, plan: Plan, state: u32, action: u32, threshold: u64, run: Run, nodes: &mut AppendList<Node>, terms: &mut AppendList<Term>)
+fn put_sums_on<S: System>(
+    system: &S,
+    plan: Plan,
+    state: u32,
+    action: u32,
+    threshold: u64,
+    run: Run,
+    nodes: &mut AppendList<Node>,
+    terms: &mut AppendList<Term>,
+)
     requires planned { ⌜ Planned (meaning (now system)) plan ⌝ }
     requires sum { ⌜ Light-sum (meaning (now system)) (now (plan .terms)) (length (plan-nodes plan)) threshold run ⌝ }
     ensures lent { λ _. ⌜ (name (now (nodes .exit) .slots) ≡ name (now (nodes .entry) .slots)) × (name (now (terms .exit) .slots) ≡ name (now (terms .entry) .slots)) ⌝ }
@@ -228,12 +316,28 @@ fn put_sums_on<S: System>(system: &S, plan: Plan, state: u32, action: u32, thres
 {
     let count = system.moves(state, action);
     for k in 0..count {
-        put_sum(system, plan, Spot::Along(state, action, k), threshold, run, nodes, terms);
+        put_sum(
+            system,
+            plan,
+            Spot::Along(state, action, k),
+            threshold,
+            run,
+            nodes,
+            terms,
+        );
     }
 }
 
 // Writes its lines at the moves of a state.
-fn put_sums_from<S: System>(system: &S, plan: Plan, state: u32, threshold: u64, run: Run, nodes: &mut AppendList<Node>, terms: &mut AppendList<Term>)
+fn put_sums_from<S: System>(
+    system: &S,
+    plan: Plan,
+    state: u32,
+    threshold: u64,
+    run: Run,
+    nodes: &mut AppendList<Node>,
+    terms: &mut AppendList<Term>,
+)
     requires planned { ⌜ Planned (meaning (now system)) plan ⌝ }
     requires sum { ⌜ Light-sum (meaning (now system)) (now (plan .terms)) (length (plan-nodes plan)) threshold run ⌝ }
     ensures lent { λ _. ⌜ (name (now (nodes .exit) .slots) ≡ name (now (nodes .entry) .slots)) × (name (now (terms .exit) .slots) ≡ name (now (terms .entry) .slots)) ⌝ }
@@ -245,7 +349,14 @@ fn put_sums_from<S: System>(system: &S, plan: Plan, state: u32, threshold: u64, 
 }
 
 // Writes its lines at all moves.
-fn put_sums_along<S: System>(system: &S, plan: Plan, threshold: u64, run: Run, nodes: &mut AppendList<Node>, terms: &mut AppendList<Term>)
+fn put_sums_along<S: System>(
+    system: &S,
+    plan: Plan,
+    threshold: u64,
+    run: Run,
+    nodes: &mut AppendList<Node>,
+    terms: &mut AppendList<Term>,
+)
     requires planned { ⌜ Planned (meaning (now system)) plan ⌝ }
     requires sum { ⌜ Light-sum (meaning (now system)) (now (plan .terms)) (length (plan-nodes plan)) threshold run ⌝ }
     ensures lent { λ _. ⌜ (name (now (nodes .exit) .slots) ≡ name (now (nodes .entry) .slots)) × (name (now (terms .exit) .slots) ≡ name (now (terms .entry) .slots)) ⌝ }
@@ -257,7 +368,14 @@ fn put_sums_along<S: System>(system: &S, plan: Plan, threshold: u64, run: Run, n
 }
 
 // Writes its lines at all rows.
-fn put_sums<S: System>(system: &S, plan: Plan, threshold: u64, run: Run, nodes: &mut AppendList<Node>, terms: &mut AppendList<Term>)
+fn put_sums<S: System>(
+    system: &S,
+    plan: Plan,
+    threshold: u64,
+    run: Run,
+    nodes: &mut AppendList<Node>,
+    terms: &mut AppendList<Term>,
+)
     requires planned { ⌜ Planned (meaning (now system)) plan ⌝ }
     requires sum { ⌜ Light-sum (meaning (now system)) (now (plan .terms)) (length (plan-nodes plan)) threshold run ⌝ }
     ensures lent { λ _. ⌜ (name (now (nodes .exit) .slots) ≡ name (now (nodes .entry) .slots)) × (name (now (terms .exit) .slots) ≡ name (now (terms .entry) .slots)) ⌝ }
@@ -279,7 +397,15 @@ fn state_at(plan: Plan, node: StateNode, p: u32) -> StateNode
         StateNode::No => StateNode::No,
         StateNode::And(i, j) => StateNode::And(place(plan, i, p), place(plan, j, p)),
         StateNode::Not(i) => StateNode::Not(place(plan, i, p)),
-        StateNode::Step { action, moves, heres } => StateNode::Step { action, moves, heres },
+        StateNode::Step {
+            action,
+            moves,
+            heres,
+        } => StateNode::Step {
+            action,
+            moves,
+            heres,
+        },
     }
 }
 
@@ -326,33 +452,59 @@ fn put_plain(plan: Plan, node: Node, width: u32, nodes: &mut AppendList<Node>)
 }
 
 // Writes the lines of a state node.
-fn put_state<S: System>(system: &S, plan: Plan, node: StateNode, nodes: &mut AppendList<Node>, alternatives: &mut AppendList<u32>)
+fn put_state<S: System>(
+    system: &S,
+    plan: Plan,
+    node: StateNode,
+    nodes: &mut AppendList<Node>,
+    alternatives: &mut AppendList<u32>,
+)
     requires planned { ⌜ Planned (meaning (now system)) plan ⌝ }
     requires fit { ⌜ Fit-state plan node ⌝ }
     ensures lent { λ _. ⌜ (name (now (nodes .exit) .slots) ≡ name (now (nodes .entry) .slots)) × (name (now (alternatives .exit) .slots) ≡ name (now (alternatives .entry) .slots)) ⌝ }
     ensures wrote { λ _. ⌜ ((ts : Table Term) → stored (table (now (nodes .exit))) ts (table (now (alternatives .exit))) ≡ laid (stored (table (now (nodes .entry))) ts (table (now (alternatives .entry)))) (node-lines (meaning (now (system .entry))) (plan .entry) (Node.State node))) ⌝ }
 {
     match node {
-        StateNode::Step { action, moves, heres } => put_steps(system, plan, action, moves, heres, nodes, alternatives),
+        StateNode::Step {
+            action,
+            moves,
+            heres,
+        } => put_steps(system, plan, action, moves, heres, nodes, alternatives),
         _ => put_plain(plan, Node::State(node), plan.states, nodes),
     }
 }
 
 // Writes the lines of a distribution node.
-fn put_dist<S: System>(system: &S, plan: Plan, node: DistNode, nodes: &mut AppendList<Node>, terms: &mut AppendList<Term>)
+fn put_dist<S: System>(
+    system: &S,
+    plan: Plan,
+    node: DistNode,
+    nodes: &mut AppendList<Node>,
+    terms: &mut AppendList<Term>,
+)
     requires planned { ⌜ Planned (meaning (now system)) plan ⌝ }
     requires fit { ⌜ Fit-dist (meaning (now system)) plan node ⌝ }
     ensures lent { λ _. ⌜ (name (now (nodes .exit) .slots) ≡ name (now (nodes .entry) .slots)) × (name (now (terms .exit) .slots) ≡ name (now (terms .entry) .slots)) ⌝ }
     ensures wrote { λ _. ⌜ ((alts : Table ℕ) → stored (table (now (nodes .exit))) (table (now (terms .exit))) alts ≡ laid (stored (table (now (nodes .entry))) (table (now (terms .entry))) alts) (node-lines (meaning (now (system .entry))) (plan .entry) (Node.Dist node))) ⌝ }
 {
     match node {
-        DistNode::Sum { threshold, terms: run } => put_sums(system, plan, threshold, run, nodes, terms),
+        DistNode::Sum {
+            threshold,
+            terms: run,
+        } => put_sums(system, plan, threshold, run, nodes, terms),
         _ => put_plain(plan, Node::Dist(node), plan.rows, nodes),
     }
 }
 
 // Writes the lines of a node.
-fn put_node<S: System>(system: &S, plan: Plan, node: Node, nodes: &mut AppendList<Node>, terms: &mut AppendList<Term>, alternatives: &mut AppendList<u32>)
+fn put_node<S: System>(
+    system: &S,
+    plan: Plan,
+    node: Node,
+    nodes: &mut AppendList<Node>,
+    terms: &mut AppendList<Term>,
+    alternatives: &mut AppendList<u32>,
+)
     requires planned { ⌜ Planned (meaning (now system)) plan ⌝ }
     requires fit { ⌜ Fit (meaning (now system)) plan node ⌝ }
     ensures lent { λ _. ⌜ (name (now (nodes .exit) .slots) ≡ name (now (nodes .entry) .slots)) × (name (now (terms .exit) .slots) ≡ name (now (terms .entry) .slots)) × (name (now (alternatives .exit) .slots) ≡ name (now (alternatives .entry) .slots)) ⌝ }
@@ -365,7 +517,13 @@ fn put_node<S: System>(system: &S, plan: Plan, node: Node, nodes: &mut AppendLis
 }
 
 // Writes the lines of all nodes, in their order.
-fn put_nodes<S: System>(system: &S, plan: Plan, nodes: &mut AppendList<Node>, terms: &mut AppendList<Term>, alternatives: &mut AppendList<u32>)
+fn put_nodes<S: System>(
+    system: &S,
+    plan: Plan,
+    nodes: &mut AppendList<Node>,
+    terms: &mut AppendList<Term>,
+    alternatives: &mut AppendList<u32>,
+)
     requires planned { ⌜ Planned (meaning (now system)) plan ⌝ }
     requires fit { ⌜ ((i : ℕ) (d : Node) → i < length (plan-nodes plan) → Fit (meaning (now system)) plan (getD (plan-nodes plan) i d)) ⌝ }
     ensures lent { λ _. ⌜ (name (now (nodes .exit) .slots) ≡ name (now (nodes .entry) .slots)) × (name (now (terms .exit) .slots) ≡ name (now (terms .entry) .slots)) × (name (now (alternatives .exit) .slots) ≡ name (now (alternatives .entry) .slots)) ⌝ }
@@ -378,7 +536,13 @@ fn put_nodes<S: System>(system: &S, plan: Plan, nodes: &mut AppendList<Node>, te
 }
 
 // Writes the quotient to the fronts of three tables.
-pub(crate) fn write<S: System>(system: &S, plan: Plan, nodes: &mut [Node], terms: &mut [Term], alternatives: &mut [u32])
+pub(crate) fn write<S: System>(
+    system: &S,
+    plan: Plan,
+    nodes: &mut [Node],
+    terms: &mut [Term],
+    alternatives: &mut [u32],
+)
     requires planned { ⌜ Planned (meaning (now system)) plan ⌝ }
     requires fit { ⌜ ((i : ℕ) (d : Node) → i < length (plan-nodes plan) → Fit (meaning (now system)) plan (getD (plan-nodes plan) i d)) ⌝ }
     requires room { ⌜ Room (plan-quotient (meaning (now system)) plan) (length (now nodes)) (length (now terms)) (length (now alternatives)) ⌝ }
@@ -389,5 +553,11 @@ pub(crate) fn write<S: System>(system: &S, plan: Plan, nodes: &mut [Node], terms
     let mut node_list = AppendList::new(nodes);
     let mut term_list = AppendList::new(terms);
     let mut alternative_list = AppendList::new(alternatives);
-    put_nodes(system, plan, &mut node_list, &mut term_list, &mut alternative_list);
+    put_nodes(
+        system,
+        plan,
+        &mut node_list,
+        &mut term_list,
+        &mut alternative_list,
+    );
 }

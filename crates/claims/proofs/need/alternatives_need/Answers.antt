@@ -1,8 +1,6 @@
-use mathlib.Core.Path.{_≡_, refl, ap, _∙_}
-use lib.ListN.{getD}
-use Rattle.formulas.specs.declared.node.Node.{Node}
+use mathlib.Core.Path.{refl}
 use Rattle.systems.specs.Actions.{has}
-use Rattle.claims.specs.Plans.{topped, alternative-need}
+use Rattle.claims.specs.Plans.{alternative-need}
 use Rattle.claims.specs.Rows.{no-node}
 use Rattle.claims.proofs.Needing.{topped-more, topped-all}
 use Rattle.claims.proofs.need.alternatives_need.Needs as need

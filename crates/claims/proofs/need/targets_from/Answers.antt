@@ -4,7 +4,7 @@ use native.Mathlib.Nat.{zero-add}
 use native.Mathlib.Omega.{arith}
 use Rattle.std.specs.Iters.{counting}
 use Rattle.std.specs.shelf.Lists.{sumBy}
-use Rattle.claims.specs.Plans.{topped, targets-on, targets-from}
+use Rattle.claims.specs.Plans.{topped, targets-on}
 use Rattle.claims.proofs.Needing.{topped-next}
 use Rattle.claims.proofs.need.targets_from.Needs as need
 

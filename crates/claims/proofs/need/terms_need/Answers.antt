@@ -1,7 +1,5 @@
-use mathlib.Core.Path.{_≡_, refl, ap, _∙_}
-use lib.ListN.{getD}
-use Rattle.formulas.specs.declared.node.Node.{Node}
-use Rattle.claims.specs.Plans.{topped, term-need}
+use mathlib.Core.Path.{refl}
+use Rattle.claims.specs.Plans.{term-need}
 use Rattle.claims.specs.Rows.{no-node}
 use Rattle.claims.proofs.Needing.{topped-more, topped-all}
 use Rattle.claims.proofs.need.terms_need.Needs as need

@@ -1,7 +1,5 @@
-use mathlib.Core.Path.{_≡_, _∙_}
-use Prim.Native.Nat.{_+_, _≤_, _<_}
 use native.Mathlib.Omega.{arith}
-use Rattle.claims.specs.Plans.{moves-before, actions-before}
+use Rattle.claims.specs.Plans.{moves-before}
 use Rattle.claims.proofs.Planning.{rows-past, rows-first, actions-le, moves-le}
 use Rattle.claims.proofs.plan.first_row.Needs as need
 

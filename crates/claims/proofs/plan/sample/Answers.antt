@@ -1,4 +1,3 @@
-use native.Mathlib.Omega.{arith}
 use Rattle.claims.proofs.Planning.{sampled-here, sampled-there}
 use Rattle.claims.proofs.plan.sample.Needs as need
 

@@ -1,5 +1,4 @@
-use mathlib.Core.Path.{_≡_, refl, sym, _∙_}
-use Prim.Native.Nat.{_≤_}
+use mathlib.Core.Path.{refl, sym, _∙_}
 use native.Mathlib.Omega.{arith}
 use lib.ListN.{length}
 use Rattle.claims.specs.Divisions.{table-quotient}
@@ -55,9 +54,9 @@ write-requires g c κs =
       };
       fit = fit R u root m A (c .pre);
       room = all-long Q (length (c .args .nodes .now)) (length (c .args .terms .now)) (length (c .args .alternatives .now))
-        (lacks-nodes R u root m A (c .pre) _ _ (c .states-states .ensures) (c .fill-firsts-rows .ensures .rows) _ _ _ (c .fill-offsets-node-need .ensures .total) (c .if-lacks .ensures tt))
-        (lacks-terms R u root m A (c .pre) _ _ _ (c .terms-need-term-need .ensures) (c .if-lacks-2 .ensures tt))
-        (lacks-alternatives R u root m A (c .pre) _ _ _ (c .alternatives-need-alternative-need .ensures) (c .if-lacks-3 .ensures tt));
+          (lacks-nodes R u root m A (c .pre) _ _ (c .states-states .ensures) (c .fill-firsts-rows .ensures .rows) _ _ _ (c .fill-offsets-node-need .ensures .total) (c .if-lacks .ensures tt))
+          (lacks-terms R u root m A (c .pre) _ _ _ (c .terms-need-term-need .ensures) (c .if-lacks-2 .ensures tt))
+          (lacks-alternatives R u root m A (c .pre) _ _ _ (c .alternatives-need-alternative-need .ensures) (c .if-lacks-3 .ensures tt));
     }
 
 pub returns : need.returns
@@ -70,13 +69,13 @@ returns g c =
     let Q = table-quotient A R u root in
     record {
       value = divided-is Q (length (c .args .nodes .now)) (length (c .args .terms .now)) (length (c .args .alternatives .now)) _ _
-        (nodes-exact R u root m A (c .pre) _ _ (c .states-states .ensures) (c .fill-firsts-rows .ensures .rows) _ (c .fill-offsets-node-need .ensures .total))
-        (terms-exact R u root m A (c .pre) _ (length (c .args .terms .now)) (c .terms-need-term-need .ensures) (c .if-lacks-2 .ensures tt))
-        (alternatives-exact R u root m A (c .pre) _ (length (c .args .alternatives .now)) (c .alternatives-need-alternative-need .ensures) (c .if-lacks-3 .ensures tt))
-        (c .place .ensures ∙ place-at R _ _ (c .states-states .ensures) (c .fill-firsts-rows .ensures .rows) (u .terms .now) (u .alternatives .now) (u .nodes .now) root 0)
-        (lacks-nodes R u root m A (c .pre) _ _ (c .states-states .ensures) (c .fill-firsts-rows .ensures .rows) _ _ _ (c .fill-offsets-node-need .ensures .total) (c .if-lacks .ensures tt))
-        (lacks-terms R u root m A (c .pre) _ _ _ (c .terms-need-term-need .ensures) (c .if-lacks-2 .ensures tt))
-        (lacks-alternatives R u root m A (c .pre) _ _ _ (c .alternatives-need-alternative-need .ensures) (c .if-lacks-3 .ensures tt));
+          (nodes-exact R u root m A (c .pre) _ _ (c .states-states .ensures) (c .fill-firsts-rows .ensures .rows) _ (c .fill-offsets-node-need .ensures .total))
+          (terms-exact R u root m A (c .pre) _ (length (c .args .terms .now)) (c .terms-need-term-need .ensures) (c .if-lacks-2 .ensures tt))
+          (alternatives-exact R u root m A (c .pre) _ (length (c .args .alternatives .now)) (c .alternatives-need-alternative-need .ensures) (c .if-lacks-3 .ensures tt))
+          (c .place .ensures ∙ place-at R _ _ (c .states-states .ensures) (c .fill-firsts-rows .ensures .rows) (u .terms .now) (u .alternatives .now) (u .nodes .now) root 0)
+          (lacks-nodes R u root m A (c .pre) _ _ (c .states-states .ensures) (c .fill-firsts-rows .ensures .rows) _ _ _ (c .fill-offsets-node-need .ensures .total) (c .if-lacks .ensures tt))
+          (lacks-terms R u root m A (c .pre) _ _ _ (c .terms-need-term-need .ensures) (c .if-lacks-2 .ensures tt))
+          (lacks-alternatives R u root m A (c .pre) _ _ _ (c .alternatives-need-alternative-need .ensures) (c .if-lacks-3 .ensures tt));
       nodes = c .write .ensures .nodes;
       terms = c .write .ensures .terms;
       alternatives = c .write .ensures .alternatives;

@@ -1,9 +1,8 @@
-use mathlib.Core.Path.{_≡_, refl, sym, ap, _∙_}
-use Prim.Native.Nat.{_*_, _≤_}
+use mathlib.Core.Path.{refl, ap, _∙_}
+use Prim.Native.Nat.{_*_}
 use native.Mathlib.Nat.{mul-le-mul-left, mul-one}
 use native.Mathlib.Omega.{arith}
 use lib.ListN.{length}
-use Rattle.formulas.specs.declared.node.Fills.{Fills}
 use Rattle.formulas.specs.Layout.{node-table, term-table, alternative-table}
 use Rattle.formulas.specs.Lines.{Formula}
 use Rattle.claims.specs.Divisions.{table-quotient}

@@ -1,4 +1,4 @@
-use mathlib.Core.Path.{_≡_, refl, sym, ap, _∙_}
+use mathlib.Core.Path.{refl, sym, ap, _∙_}
 use mathlib.Core.List.{map}
 use Prim.Native.Nat.{_<_}
 use lib.ListN.{length, getD, take}
@@ -28,9 +28,10 @@ loop-d-again c =
     let f = place-in (c .args .plan) in
     let ds = c .args .parts .now in
     let i = c .loop-d .d-index in
-    let rows = counting (c .args .first) (c .args .count) in
-    (c .put-rows .ensures .same ∙ h .0,
-     extended-more (table (c .args .out .now)) (table (c .loop-d .out)) (table (c .put-rows .last .out)) (cross f (take i ds) rows) (map (f (getD ds i 0)) rows) _ (h .1) (c .put-rows .ensures .wrote) (cross-more f ds i 0 rows (c .loop-d-test .taken)))
+    let rows = counting (c .args .first) (c .args .count) in (
+      c .put-rows .ensures .same ∙ h .0,
+      extended-more (table (c .args .out .now)) (table (c .loop-d .out)) (table (c .put-rows .last .out)) (cross f (take i ds) rows) (map (f (getD ds i 0)) rows) _ (h .1) (c .put-rows .ensures .wrote) (cross-more f ds i 0 rows (c .loop-d-test .taken)),
+    )
 
 pub returns : need.returns
 returns c =

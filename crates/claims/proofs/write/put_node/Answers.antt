@@ -1,4 +1,4 @@
-use mathlib.Core.Path.{_≡_, refl, sym, ap, _∙_}
+use mathlib.Core.Path.{refl, sym, ap, _∙_}
 use Rattle.claims.specs.Layings.{table, store, laid}
 use Rattle.claims.specs.Plans.{node-lines}
 use Rattle.claims.proofs.write.put_node.Needs as need

@@ -1,7 +1,5 @@
-use mathlib.Core.Path.{_≡_, refl, sym, ap, _∙_}
-use Prim.Native.Nat.{_+_, _≤_, _<_}
-use native.Mathlib.Omega.{arith}
-use lib.ListN.{length, getD, take}
+use mathlib.Core.Path.{refl, sym, ap, _∙_}
+use lib.ListN.{getD, take}
 use Rattle.std.specs.shelf.Lists.{joined}
 use Rattle.std.proofs.Pieces.{joined-on}
 use Rattle.claims.specs.Layings.{store, laid}
@@ -23,9 +21,10 @@ loop-i-again g c =
     let ns = plan-nodes (c .args .plan) in
     let h = c .loop-i .inv in
     let q = c .put-node .ensures in
-    let i = c .loop-i .i in
-    ((q .lent .0 ∙ h .0 .0, q .lent .1 ∙ h .0 .1, q .lent .2 ∙ h .0 .2),
-     laid-more (store (c .args .nodes .now) (c .args .terms .now) (c .args .alternatives .now)) (store (c .loop-i .nodes) (c .loop-i .terms) (c .loop-i .alternatives)) _ (joined f (take i ns)) (f (getD ns i no-node)) _ (h .1) (q .wrote) (sym (joined-on f ns i no-node (c .loop-i-test .taken))))
+    let i = c .loop-i .i in (
+      (q .lent .0 ∙ h .0 .0, q .lent .1 ∙ h .0 .1, q .lent .2 ∙ h .0 .2),
+      laid-more (store (c .args .nodes .now) (c .args .terms .now) (c .args .alternatives .now)) (store (c .loop-i .nodes) (c .loop-i .terms) (c .loop-i .alternatives)) _ (joined f (take i ns)) (f (getD ns i no-node)) _ (h .1) (q .wrote) (sym (joined-on f ns i no-node (c .loop-i-test .taken))),
+    )
 
 pub returns : need.returns
 returns g c =

@@ -1,4 +1,4 @@
-use mathlib.Core.Path.{_≡_, refl, ap, _∙_}
+use mathlib.Core.Path.{refl, ap, _∙_}
 use mathlib.Core.List.{[], _∷_, map}
 use Prim.Native.Nat.{ℕ, _<_}
 use lib.ListN.{length, getD, take}
@@ -25,9 +25,10 @@ loop-d-again c =
     let p = c .put .ensures in
     let f : ℕ → ℕ = λ d. place-in (c .args .plan) d (c .args .p) in
     let ds = c .args .parts .now in
-    let i = c .loop-d .d-index in
-    (p .same ∙ h .0,
-     extended-more (table (c .args .out .now)) (table (c .loop-d .out)) (table (c .put .last .self)) (map f (take i ds)) (f (getD ds i 0) ∷ []) _ (h .1) (put-is (c .loop-d .out) (c .put .last .self) _ _ (c .place .ensures) (p .fill) (p .slots)) (map-more f ds i 0 (c .loop-d-test .taken)))
+    let i = c .loop-d .d-index in (
+      p .same ∙ h .0,
+      extended-more (table (c .args .out .now)) (table (c .loop-d .out)) (table (c .put .last .self)) (map f (take i ds)) (f (getD ds i 0) ∷ []) _ (h .1) (put-is (c .loop-d .out) (c .put .last .self) _ _ (c .place .ensures) (p .fill) (p .slots)) (map-more f ds i 0 (c .loop-d-test .taken)),
+    )
 
 pub returns : need.returns
 returns c =

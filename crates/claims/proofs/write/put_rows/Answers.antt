@@ -1,6 +1,6 @@
 use mathlib.Core.Path.{_≡_, refl, ap, _∙_}
 use mathlib.Core.List.{[], _∷_, map}
-use Prim.Native.Nat.{ℕ, _+_, _<_}
+use Prim.Native.Nat.{_+_}
 use native.Mathlib.Omega.{arith}
 use Rattle.std.specs.Iters.{counting}
 use Rattle.std.proofs.shelf.Counted.{map-counting-more}
@@ -19,9 +19,10 @@ loop-k-again c =
     let f = place-in (c .args .plan) (c .args .d) in
     let a = c .args .first in
     let k = c .loop-k .k in
-    let value : c .offset-before .result + a + k ≡ f (a + k) = omega (arith, c .offset-before .ensures .value) in
-    (p .same ∙ h .0,
-     extended-more (table (c .args .out .now)) (table (c .loop-k .out)) (table (c .put .last .self)) (map f (counting a k)) (f (a + k) ∷ []) _ (h .1) (put-is (c .loop-k .out) (c .put .last .self) _ _ value (p .fill) (p .slots)) (map-counting-more f a k (a + k) refl))
+    let value : c .offset-before .result + a + k ≡ f (a + k) = omega (arith, c .offset-before .ensures .value) in (
+      p .same ∙ h .0,
+      extended-more (table (c .args .out .now)) (table (c .loop-k .out)) (table (c .put .last .self)) (map f (counting a k)) (f (a + k) ∷ []) _ (h .1) (put-is (c .loop-k .out) (c .put .last .self) _ _ value (p .fill) (p .slots)) (map-counting-more f a k (a + k) refl),
+    )
 
 pub returns : need.returns
 returns c =

@@ -75,9 +75,9 @@ returns g c =
     let p = c .put .ensures in
     let moved : middle ≡ extended before (cond shared (cross at ms rows) (map here ms)) = c .put-move-parts .ensures .wrote ∙ ap (λ l. extended before (cond shared (cross at l rows) (map here l))) (cut alts (c .args .moves)) in
     let stayed : end ≡ extended middle (cond shared (map here hs) (cross at ms rows ++ map here hs)) =
-        c .put-here-parts .ensures .wrote
-        ∙ ap (λ l. extended middle (cond shared (map here l) (cross at (whole alts (c .args .moves)) rows ++ map here l))) (cut alts (c .args .heres))
-        ∙ ap (λ l. extended middle (cond shared (map here hs) (cross at l rows ++ map here hs))) (cut alts (c .args .moves)) in
+    c .put-here-parts .ensures .wrote
+    ∙ ap (λ l. extended middle (cond shared (map here l) (cross at (whole alts (c .args .moves)) rows ++ map here l))) (cut alts (c .args .heres))
+    ∙ ap (λ l. extended middle (cond shared (map here hs) (cross at l rows ++ map here hs))) (cut alts (c .args .moves)) in
     record {
       lent = (p .same, c .put-here-parts .ensures .same ∙ c .put-move-parts .ensures .same);
       wrote = lay-step (table (c .args .nodes .now)) (table (c .put .last .self)) before middle end (c .args .action) (cond shared (cross at ms rows) (map here ms)) (cond shared (map here hs) (cross at ms rows ++ map here hs)) _ moved stayed (put-is (c .args .nodes .now) (c .put .last .self) _ _ refl (p .fill) (p .slots)) (step-is R x (c .pre .planned) (c .args .action) (c .args .p) (c .first-row-row .result) (c .moves-count .result) (c .args .moves) (c .args .heres) shared (c .contains-shared .ensures) (c .moves-count .ensures) (c .first-row-row .ensures .rows));

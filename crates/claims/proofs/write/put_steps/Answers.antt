@@ -1,6 +1,5 @@
 use mathlib.Core.Path.{_≡_, refl, ap, _∙_}
 use mathlib.Core.List.{[], _∷_, map}
-use Prim.Native.Nat.{_+_, _≤_, _<_}
 use native.Mathlib.Omega.{arith}
 use Rattle.std.specs.Iters.{counting}
 use Rattle.std.proofs.shelf.Counted.{map-counting-more}
@@ -22,9 +21,11 @@ loop-p-again g c =
     let h = c .loop-p .inv in
     let p = c .put-step .ensures in
     let f = node-line (g .S·System .meaning (c .args .system .now)) (c .args .plan) (State (Step (c .args .action) (c .args .moves) (c .args .heres))) in
-    let k = c .loop-p .p in
-    (p .lent .0 ∙ h .0, p .lent .1 ∙ h .1,
-     λ ts. laid-more (stored (table (c .args .nodes .now)) ts (table (c .args .alternatives .now))) (stored (table (c .loop-p .nodes)) ts (table (c .loop-p .alternatives))) _ (map f (counting 0 k)) (f k ∷ []) _ (h .2 ts) (p .wrote ts) (map-counting-more f 0 k k (omega arith)))
+    let k = c .loop-p .p in (
+      p .lent .0 ∙ h .0,
+      p .lent .1 ∙ h .1,
+      λ ts. laid-more (stored (table (c .args .nodes .now)) ts (table (c .args .alternatives .now))) (stored (table (c .loop-p .nodes)) ts (table (c .loop-p .alternatives))) _ (map f (counting 0 k)) (f k ∷ []) _ (h .2 ts) (p .wrote ts) (map-counting-more f 0 k k (omega arith)),
+    )
 
 pub returns : need.returns
 returns g c =

@@ -1,11 +1,10 @@
 use mathlib.Core.Path.{_≡_, refl, ap, _∙_}
-use mathlib.Core.List.{[], _∷_, map}
-use Prim.Native.Nat.{ℕ, _+_, _≤_, _<_}
+use mathlib.Core.List.{map}
 use native.Mathlib.Omega.{arith}
 use Rattle.std.specs.Iters.{counting}
 use Rattle.std.specs.shelf.Lists.{joined}
 use Rattle.std.proofs.shelf.Lists.{map-append}
-use Rattle.formulas.specs.Lines.{Line, entries}
+use Rattle.formulas.specs.Lines.{entries}
 use Rattle.claims.specs.Layings.{table, stored, laid}
 use Rattle.claims.specs.Plans.{sum-line}
 use Rattle.claims.specs.Quotient.{moves-of}
@@ -26,9 +25,11 @@ loop-p-again g c =
     let h = c .loop-p .inv in
     let q = c .put-sums-from .ensures in
     let k = c .loop-p .p in
-    let mvs = moves-of R in
-    (q .lent .0 ∙ h .0, q .lent .1 ∙ h .1,
-     λ alts. laid-more (stored (table (c .args .nodes .now)) (table (c .args .terms .now)) alts) (stored (table (c .loop-p .nodes)) (table (c .loop-p .terms)) alts) _ (map f (joined mvs (counting 0 k))) (map f (mvs k)) _ (h .2 alts) (q .wrote alts) (ap (map f) (joined-counting-more mvs k) ∙ map-append f (joined mvs (counting 0 k)) (mvs k)))
+    let mvs = moves-of R in (
+      q .lent .0 ∙ h .0,
+      q .lent .1 ∙ h .1,
+      λ alts. laid-more (stored (table (c .args .nodes .now)) (table (c .args .terms .now)) alts) (stored (table (c .loop-p .nodes)) (table (c .loop-p .terms)) alts) _ (map f (joined mvs (counting 0 k))) (map f (mvs k)) _ (h .2 alts) (q .wrote alts) (ap (map f) (joined-counting-more mvs k) ∙ map-append f (joined mvs (counting 0 k)) (mvs k)),
+    )
 
 pub returns : need.returns
 returns g c =

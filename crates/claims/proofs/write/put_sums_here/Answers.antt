@@ -1,6 +1,6 @@
 use mathlib.Core.Path.{_≡_, refl, ap, _∙_}
 use mathlib.Core.List.{[], _∷_, map}
-use Prim.Native.Nat.{ℕ, _+_, _≤_, _<_}
+use Prim.Native.Nat.{ℕ}
 use native.Mathlib.Omega.{arith}
 use Rattle.std.specs.Iters.{counting}
 use Rattle.std.proofs.shelf.Counted.{map-counting-more}
@@ -24,9 +24,11 @@ loop-p-again g c =
     let h = c .loop-p .inv in
     let q = c .put-sum .ensures in
     let k = c .loop-p .p in
-    let here : ℕ → Line = λ p. f (point R p) in
-    (q .lent .0 ∙ h .0, q .lent .1 ∙ h .1,
-     λ alts. laid-more (stored (table (c .args .nodes .now)) (table (c .args .terms .now)) alts) (stored (table (c .loop-p .nodes)) (table (c .loop-p .terms)) alts) _ (map here (counting 0 k)) (here k ∷ []) _ (h .2 alts) (q .wrote alts) (map-counting-more here 0 k k (omega arith)))
+    let here : ℕ → Line = λ p. f (point R p) in (
+      q .lent .0 ∙ h .0,
+      q .lent .1 ∙ h .1,
+      λ alts. laid-more (stored (table (c .args .nodes .now)) (table (c .args .terms .now)) alts) (stored (table (c .loop-p .nodes)) (table (c .loop-p .terms)) alts) _ (map here (counting 0 k)) (here k ∷ []) _ (h .2 alts) (q .wrote alts) (map-counting-more here 0 k k (omega arith)),
+    )
 
 pub returns : need.returns
 returns g c =

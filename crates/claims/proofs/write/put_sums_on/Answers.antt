@@ -1,10 +1,10 @@
-use mathlib.Core.Path.{_≡_, refl, ap, _∙_}
+use mathlib.Core.Path.{refl, ap, _∙_}
 use mathlib.Core.List.{[], _∷_, map}
-use Prim.Native.Nat.{ℕ, _+_, _≤_, _<_}
+use Prim.Native.Nat.{_≤_, _<_}
 use native.Mathlib.Omega.{arith}
 use lib.ListN.{length, getD, take}
 use Rattle.std.proofs.shelf.Lists.{map-more, take-all}
-use Rattle.formulas.specs.Lines.{Line, entries}
+use Rattle.formulas.specs.Lines.{entries}
 use Rattle.claims.specs.Layings.{table, stored, laid}
 use Rattle.claims.specs.Plans.{sum-line}
 use Rattle.claims.proofs.Laying.{laid-more}
@@ -24,9 +24,11 @@ loop-k-again g c =
     let q = c .put-sum .ensures in
     let k = c .loop-k .k in
     let mvs = R .moves (c .args .state) (c .args .action) in
-    let within : k < length mvs = omega (arith, c .moves-count .ensures, c .loop-k-test .taken) in
-    (q .lent .0 ∙ h .0, q .lent .1 ∙ h .1,
-     λ alts. laid-more (stored (table (c .args .nodes .now)) (table (c .args .terms .now)) alts) (stored (table (c .loop-k .nodes)) (table (c .loop-k .terms)) alts) _ (map f (take k mvs)) (f (getD mvs k []) ∷ []) _ (h .2 alts) (q .wrote alts) (map-more f mvs k [] within))
+    let within : k < length mvs = omega (arith, c .moves-count .ensures, c .loop-k-test .taken) in (
+      q .lent .0 ∙ h .0,
+      q .lent .1 ∙ h .1,
+      λ alts. laid-more (stored (table (c .args .nodes .now)) (table (c .args .terms .now)) alts) (stored (table (c .loop-k .nodes)) (table (c .loop-k .terms)) alts) _ (map f (take k mvs)) (f (getD mvs k []) ∷ []) _ (h .2 alts) (q .wrote alts) (map-more f mvs k [] within),
+    )
 
 pub returns : need.returns
 returns g c =

@@ -1,10 +1,9 @@
-use mathlib.Core.Path.{_≡_, refl, ap, _∙_}
+use mathlib.Core.Path.{refl, ap, _∙_}
 use mathlib.Core.List.{[], _∷_, map}
-use Prim.Native.Nat.{ℕ, _+_, _*_, _≤_, _<_}
+use Prim.Native.Nat.{_≤_, _<_}
 use native.Mathlib.Omega.{arith}
 use lib.ListN.{length, getD, take}
 use Rattle.std.proofs.shelf.Lists.{map-more, take-all}
-use Rattle.formulas.specs.declared.node.Term.{Term}
 use Rattle.claims.specs.Layings.{table, extended}
 use Rattle.claims.specs.Plans.{plan-lines}
 use Rattle.claims.specs.Quotient.{new-term}
@@ -38,9 +37,10 @@ loop-index-again g c =
     let mv = spot-of R (c .args .spot) in
     let i = c .loop-index .index in
     let within : i < length mv = omega (arith, c .targets-count .ensures, c .loop-index-test .taken) in
-    let value = c .term-at .ensures ∙ term-is R (c .args .plan) (c .pre .planned) (c .args .term) (getD mv i no-target) _ (c .offset-before .ensures .value) in
-    (p .same ∙ h .0,
-     extended-more (table (c .args .out .now)) (table (c .loop-index .out)) (table (c .put .last .self)) (map f (take i mv)) (f (getD mv i no-target) ∷ []) _ (h .1) (put-is (c .loop-index .out) (c .put .last .self) _ _ value (p .fill) (p .slots)) (map-more f mv i no-target within))
+    let value = c .term-at .ensures ∙ term-is R (c .args .plan) (c .pre .planned) (c .args .term) (getD mv i no-target) _ (c .offset-before .ensures .value) in (
+      p .same ∙ h .0,
+      extended-more (table (c .args .out .now)) (table (c .loop-index .out)) (table (c .put .last .self)) (map f (take i mv)) (f (getD mv i no-target) ∷ []) _ (h .1) (put-is (c .loop-index .out) (c .put .last .self) _ _ value (p .fill) (p .slots)) (map-more f mv i no-target within),
+    )
 
 pub returns : need.returns
 returns g c =

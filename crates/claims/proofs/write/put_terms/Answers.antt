@@ -1,4 +1,4 @@
-use mathlib.Core.Path.{_≡_, refl, sym, ap, _∙_}
+use mathlib.Core.Path.{refl, sym, ap, _∙_}
 use mathlib.Core.List.{map}
 use lib.ListN.{length, getD, take}
 use Rattle.std.proofs.shelf.Lists.{take-all}
@@ -34,9 +34,10 @@ loop-t-again g c =
     let f = new-term R (plan-lines (c .args .plan)) in
     let ks = c .args .parts .now in
     let i = c .loop-t .t-index in
-    let mv = spot-of R (c .args .spot) in
-    (c .put-targets .ensures .same ∙ h .0,
-     extended-more (table (c .args .out .now)) (table (c .loop-t .out)) (table (c .put-targets .last .out)) (cross f (take i ks) mv) (map (f (getD ks i no-term)) mv) _ (h .1) (c .put-targets .ensures .wrote) (cross-more f ks i no-term mv (c .loop-t-test .taken)))
+    let mv = spot-of R (c .args .spot) in (
+      c .put-targets .ensures .same ∙ h .0,
+      extended-more (table (c .args .out .now)) (table (c .loop-t .out)) (table (c .put-targets .last .out)) (cross f (take i ks) mv) (map (f (getD ks i no-term)) mv) _ (h .1) (c .put-targets .ensures .wrote) (cross-more f ks i no-term mv (c .loop-t-test .taken)),
+    )
 
 pub returns : need.returns
 returns g c =
