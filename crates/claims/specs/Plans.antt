@@ -154,7 +154,7 @@ node-lines R x n = new-lines (has (x .shared)) R (plan-lines x) (line (x .terms 
 abbrev pub sum-line : Meaning → Plan → ℕ → List Term → Move → Line
 sum-line R x t ks mv = sum (t * R .mass) (cross (new-term R (plan-lines x)) ks mv)
 
--- the largest count
+-- a count, which stops at 2^64 - 1
 abbrev pub topped : ℕ → ℕ
 topped n = min n 18446744073709551615
 
