@@ -36,7 +36,7 @@ named-code (Numeral n) h = absurd (omega arith)
 pub is-not : (s : Token) → code s < 12 → (x : Lexeme) → (x .token ≡ s → ⊥) → is s x ≡ false
 is-not s h x n =
     ⊎-elim
-      (λ e. let c = eqb-true (code s) (code (x .token)) e in
-            absurd (n (sym (named-code (x .token) (omega arith)) ∙ ap named (sym c) ∙ named-code s h)))
-      (λ e. e)
-      (cases-bool (is s x))
+    (λ e. let c = eqb-true (code s) (code (x .token)) e in
+    absurd (n (sym (named-code (x .token) (omega arith)) ∙ ap named (sym c) ∙ named-code s h)))
+    (λ e. e)
+    (cases-bool (is s x))

@@ -48,9 +48,10 @@ module _ (w : List ℕ) (i v : ℕ) (h : Sofar w i v) (lt : i < length w) where
 
   pub more : (u : ℕ) → u ≡ min (v * 10 + (getD w i 0 - 48)) 1073741825 → 48 ≤ getD w i 0 → getD w i 0 ≤ 57 → Sofar w (i + 1) u
   more u e low high = record {
-      small = grind arith;
-      value = decimal-capped (drop (i + 1) w) u (v * 10 + (getD w i 0 - 48)) (ap (λ x. min x 1073741825) e ∙ min-min _) ∙ sym (ap (λ l. min (decimal v l) 1073741825) next) ∙ h .value;
-      rest = sym (here (getD w i 0) (drop (i + 1) w) low high) ∙ sym (ap digits next) ∙ h .rest }
+    small = grind arith;
+    value = decimal-capped (drop (i + 1) w) u (v * 10 + (getD w i 0 - 48)) (ap (λ x. min x 1073741825) e ∙ min-min _) ∙ sym (ap (λ l. min (decimal v l) 1073741825) next) ∙ h .value;
+    rest = sym (here (getD w i 0) (drop (i + 1) w) low high) ∙ sym (ap digits next) ∙ h .rest;
+  }
     where
       here : (d : ℕ) (l : List ℕ) → 48 ≤ d → d ≤ 57 → digits (d ∷ l) ≡ digits l
       here d l a b = grind (arith, tells)

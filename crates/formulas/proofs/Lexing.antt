@@ -97,15 +97,14 @@ module _ (x : Lexeme) (ws : List Item) where
     pub expected-no : (code t ≡ code (x .token) → ⊥) → confirmed t x ws ≡ misplaced x
     expected-no a = rw (ne-eqb (code t) (code (x .token)) a)
 
-
 -- a number that is in its range or not
 pub ranged-takes : (low high p n : ℕ) {w : Words} {t : Token} (r : Result ℕ GrammarFault) → t ≡ Numeral n → r ≡ in-range low high p n → Takes 0 (λ stop ws. ranged low high p (value t) ws) Itself w r w
 ranged-takes low high p n {w} r e i =
     as-if (λ stop ws. ap (λ s. ranged low high p (value s) ws) e)
     (subst (λ s. Takes 0 (λ stop ws. ranged low high p (Some n) ws) Itself w s w) (sym i)
     (cond-both (leb low n && leb n high) (Ok n) (Err (OutOfRange p)) (λ s. Takes 0 (λ stop ws. ranged low high p (Some n) ws) Itself w s w)
-      (λ yes. as-if (λ stop ws. cond-true _ _ _ yes) (nothing-read refl))
-      (λ no. as-if (λ stop ws. cond-false _ _ _ no) refused)))
+    (λ yes. as-if (λ stop ws. cond-true _ _ _ yes) (nothing-read refl))
+    (λ no. as-if (λ stop ws. cond-false _ _ _ no) refused)))
 
 pub unranged : (low high p : ℕ) (t : Token) (ws : List Item) → ((n : ℕ) → t ≡ Numeral n → ⊥) → ranged low high p (value t) ws ≡ Err (Misplaced p)
 unranged low high p t ws h = ap (λ v. ranged low high p v ws) (no-value t h)

@@ -76,9 +76,9 @@ term-starts zero σ stop ws = divided (next stop ws) _ _ _ (λ x rest. begins x 
 term-starts (suc room) σ stop ws =
     divided (next stop ws) _ _ _
     (λ x rest. begins x rest _ _ (λ s r. started (suc room - 1) σ s stop r) refl refl
-      (ap (λ n. then (next stop rest) (λ y more. inside n σ y stop more)) (sym (less room))
-       ∙ ap (λ o. then o (λ y more. inside (suc room - 1) σ y stop more)) (sym (open-behind room x stop rest))
-       ∙ sym (then-then (behind (suc room) x stop rest) (λ y r. Ok (Inside y, r)) (λ s r. started (suc room - 1) σ s stop r))))
+    (ap (λ n. then (next stop rest) (λ y more. inside n σ y stop more)) (sym (less room))
+    ∙ ap (λ o. then o (λ y more. inside (suc room - 1) σ y stop more)) (sym (open-behind room x stop rest))
+    ∙ sym (then-then (behind (suc room) x stop rest) (λ y r. Ok (Inside y, r)) (λ s r. started (suc room - 1) σ s stop r))))
 
 -- what a sum is, from its beginning
 abbrev pub sum-started : ℕ → Option Lexeme → ℕ → List Item → Out Products
@@ -99,9 +99,9 @@ sum-starts-as zero stop ws = divided (next stop ws) _ _ _ (λ x rest. sum-begins
 sum-starts-as (suc room) stop ws =
     divided (next stop ws) _ _ _
     (λ x rest. sum-begins x rest _ _ (λ s r. sum-started (suc room - 1) s stop r) refl
-      (ap (λ n. then (next stop rest) (λ y more. sum-inside n y stop more)) (sym (less room))
-       ∙ ap (λ o. then o (λ y more. sum-inside (suc room - 1) y stop more)) (sym (open-behind room x stop rest))
-       ∙ sym (then-then (behind (suc room) x stop rest) (λ y r. Ok (Some y, r)) (λ s r. sum-started (suc room - 1) s stop r))))
+    (ap (λ n. then (next stop rest) (λ y more. sum-inside n y stop more)) (sym (less room))
+    ∙ ap (λ o. then o (λ y more. sum-inside (suc room - 1) y stop more)) (sym (open-behind room x stop rest))
+    ∙ sym (then-then (behind (suc room) x stop rest) (λ y r. Ok (Some y, r)) (λ s r. sum-started (suc room - 1) s stop r))))
 
 -- a probability
 pub quantity-starts : (room stop : ℕ) (ws : List Item) → a-quantity room stop ws ≡ then (prob-starts room stop ws) (λ _ r. then (a-term (room - 1) state stop r) (λ s l. closed stop s l))
@@ -110,11 +110,11 @@ quantity-starts zero stop ws = divided (next stop ws) _ _ _ (λ x rest. sym (the
 quantity-starts (suc room) stop ws =
     then-then (next stop ws) _ _
     ∙ divided (next stop ws) _ _ _
-      (λ x rest.
-        then-cond (is Open x) (Ok (tt, rest)) (misplaced x) _
-        ∙ ap (λ n. cond (is Open x) (then (expect Prob stop rest) (λ _ q. then (a-term n state stop q) (λ s l. closed stop s l))) (misplaced x)) (sym (less room))
-        ∙ ap (λ o. cond (is Open x) (then (then o (λ y more. confirmed Prob y more)) (λ _ q. then (a-term (suc room - 1) state stop q) (λ s l. closed stop s l))) (misplaced x)) (sym (open-behind room x stop rest))
-        ∙ sym (then-cond (is Open x) _ (misplaced x) _))
+    (λ x rest.
+    then-cond (is Open x) (Ok (tt, rest)) (misplaced x) _
+    ∙ ap (λ n. cond (is Open x) (then (expect Prob stop rest) (λ _ q. then (a-term n state stop q) (λ s l. closed stop s l))) (misplaced x)) (sym (less room))
+    ∙ ap (λ o. cond (is Open x) (then (then o (λ y more. confirmed Prob y more)) (λ _ q. then (a-term (suc room - 1) state stop q) (λ s l. closed stop s l))) (misplaced x)) (sym (open-behind room x stop rest))
+    ∙ sym (then-cond (is Open x) _ (misplaced x) _))
 
 -- one of several products
 pub element-full : (room : ℕ) (x : Lexeme) (left stop : ℕ) (ws : List Item) → room ≡ 0 → an-element room x left stop ws ≡ too-many x
@@ -141,12 +141,12 @@ rest-open room count left stop ws lt =
     let t : leb (suc (8 - (count + 1))) 6 ≡ leb 2 count = grind (arith, tells) in
     ap (λ m. several stop (λ z n l. element stop room z n l) m left ws) up
     ∙ divided (next stop ws) _ _ _
-      (λ x rest.
-        ap (λ b. cond (is Close x && b) (Ok (none, rest)) (cond (is Open x) (followed room count left (Some x) stop rest) (misplaced x))) t
-        ∙ ap (λ o. cond (is Close x && leb 2 count) (Ok (none, rest)) (cond (is Open x) o (misplaced x)))
-          (sym (ap (λ b. then (cond b (too-many x) (Ok (Some x, rest))) (λ o r. followed room count left o stop r)) (lt-leb 8 count lt)))
-        ∙ ap (cond (is Close x && leb 2 count) (Ok (none, rest))) (sym (then-cond (is Open x) (cond (leb 8 count) (too-many x) (Ok (Some x, rest))) (misplaced x) _))
-        ∙ sym (then-cond (is Close x && leb 2 count) (Ok (None, rest)) _ _))
+    (λ x rest.
+    ap (λ b. cond (is Close x && b) (Ok (none, rest)) (cond (is Open x) (followed room count left (Some x) stop rest) (misplaced x))) t
+    ∙ ap (λ o. cond (is Close x && leb 2 count) (Ok (none, rest)) (cond (is Open x) o (misplaced x)))
+    (sym (ap (λ b. then (cond b (too-many x) (Ok (Some x, rest))) (λ o r. followed room count left o stop r)) (lt-leb 8 count lt)))
+    ∙ ap (cond (is Close x && leb 2 count) (Ok (none, rest))) (sym (then-cond (is Open x) (cond (leb 8 count) (too-many x) (Ok (Some x, rest))) (misplaced x) _))
+    ∙ sym (then-cond (is Close x && leb 2 count) (Ok (None, rest)) _ _))
 
 -- eight products came
 full : (room count left stop : ℕ) (ws : List Item) → count ≡ 8 → products room count left stop ws ≡ then (another count stop ws) (λ o r. followed room count left o stop r)
@@ -154,10 +154,10 @@ unfolding several
 full room count left stop ws e =
     ap (λ m. products room m left stop ws) e
     ∙ divided (next stop ws) _ _ _
-      (λ x rest.
-        ap (λ b. cond b (Ok (none, rest)) (cond (is Open x) (too-many x) (misplaced x))) (and-true (is Close x))
-        ∙ ap (cond (is Close x && leb 2 8) (Ok (none, rest))) (sym (then-cond (is Open x) (too-many x) (misplaced x) _))
-        ∙ sym (then-cond (is Close x && leb 2 8) (Ok (None, rest)) _ (λ o r. followed room 8 left o stop r)))
+    (λ x rest.
+    ap (λ b. cond b (Ok (none, rest)) (cond (is Open x) (too-many x) (misplaced x))) (and-true (is Close x))
+    ∙ ap (cond (is Close x && leb 2 8) (Ok (none, rest))) (sym (then-cond (is Open x) (too-many x) (misplaced x) _))
+    ∙ sym (then-cond (is Close x && leb 2 8) (Ok (None, rest)) _ (λ o r. followed room 8 left o stop r)))
     ∙ ap (λ m. then (another m stop ws) (λ o r. followed room m left o stop r)) (sym e)
   where
     and-true : (b : Bool) → b ≡ b && true
@@ -185,9 +185,9 @@ number-low low high stop ws n rest e = from (next stop ws) e
     within p None r i = absurd (grind arith)
     within p (Some m) r i =
         ⊎-elim
-          (λ t. let q = leb-true m high (and-parts (leb low m) (leb m high) t .1) in let same : m ≡ n = grind arith in omega arith)
-          (λ t. absurd (grind arith))
-          (cases-bool (leb low m && leb m high))
+        (λ t. let q = leb-true m high (and-parts (leb low m) (leb m high) t .1) in let same : m ≡ n = grind arith in omega arith)
+        (λ t. absurd (grind arith))
+        (cases-bool (leb low m && leb m high))
 
     from : (o : Out Lexeme) → then o (λ x r. ranged low high (x .place) (value (x .token)) r) ≡ Ok (n, rest) → n ≤ high
     from (Err f) i = absurd (grind arith)

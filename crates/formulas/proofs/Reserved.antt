@@ -29,7 +29,7 @@ pub not-reserved : (w : List ℕ) → Apart w reserved → tokenOf w ≡ numeral
 not-reserved w a = entry-none w reserved _ a
 
 pub other-0 : (w : List ℕ) → length w ≡ 0 → Apart w reserved
-other-0 w n  = (λ e. omega (arith, ap length e), (λ e. omega (arith, ap length e), (λ e. omega (arith, ap length e), (λ e. omega (arith, ap length e), (λ e. omega (arith, ap length e), (λ e. omega (arith, ap length e), (λ e. omega (arith, ap length e), (λ e. omega (arith, ap length e), (λ e. omega (arith, ap length e), (λ e. omega (arith, ap length e), (λ e. omega (arith, ap length e), (λ e. omega (arith, ap length e), tt))))))))))))
+other-0 w n = (λ e. omega (arith, ap length e), (λ e. omega (arith, ap length e), (λ e. omega (arith, ap length e), (λ e. omega (arith, ap length e), (λ e. omega (arith, ap length e), (λ e. omega (arith, ap length e), (λ e. omega (arith, ap length e), (λ e. omega (arith, ap length e), (λ e. omega (arith, ap length e), (λ e. omega (arith, ap length e), (λ e. omega (arith, ap length e), (λ e. omega (arith, ap length e), tt))))))))))))
 
 pub other-1 : (w : List ℕ) → length w ≡ 1 → (getD w 0 0 ≡ 40 → ⊥) → (getD w 0 0 ≡ 41 → ⊥) → (getD w 0 0 ≡ 43 → ⊥) → (getD w 0 0 ≡ 42 → ⊥) → Apart w reserved
 other-1 w n p0 p1 p2 p3 = (λ e. p0 (ap (λ l. getD l 0 0) e), (λ e. p1 (ap (λ l. getD l 0 0) e), (λ e. p2 (ap (λ l. getD l 0 0) e), (λ e. p3 (ap (λ l. getD l 0 0) e), (λ e. omega (arith, ap length e), (λ e. omega (arith, ap length e), (λ e. omega (arith, ap length e), (λ e. omega (arith, ap length e), (λ e. omega (arith, ap length e), (λ e. omega (arith, ap length e), (λ e. omega (arith, ap length e), (λ e. omega (arith, ap length e), tt))))))))))))
@@ -47,5 +47,4 @@ pub other-5 : (w : List ℕ) → length w ≡ 5 → (getD w 0 0 ≡ 102 → getD
 other-5 w n p11 = (λ e. omega (arith, ap length e), (λ e. omega (arith, ap length e), (λ e. omega (arith, ap length e), (λ e. omega (arith, ap length e), (λ e. omega (arith, ap length e), (λ e. omega (arith, ap length e), (λ e. omega (arith, ap length e), (λ e. omega (arith, ap length e), (λ e. omega (arith, ap length e), (λ e. omega (arith, ap length e), (λ e. omega (arith, ap length e), (λ e. p11 (ap (λ l. getD l 0 0) e) (ap (λ l. getD l 1 0) e) (ap (λ l. getD l 2 0) e) (ap (λ l. getD l 3 0) e) (ap (λ l. getD l 4 0) e), tt))))))))))))
 
 pub other-6 : (w : List ℕ) → 6 ≤ length w → Apart w reserved
-other-6 w n  = (λ e. omega (arith, ap length e), (λ e. omega (arith, ap length e), (λ e. omega (arith, ap length e), (λ e. omega (arith, ap length e), (λ e. omega (arith, ap length e), (λ e. omega (arith, ap length e), (λ e. omega (arith, ap length e), (λ e. omega (arith, ap length e), (λ e. omega (arith, ap length e), (λ e. omega (arith, ap length e), (λ e. omega (arith, ap length e), (λ e. omega (arith, ap length e), tt))))))))))))
-
+other-6 w n = (λ e. omega (arith, ap length e), (λ e. omega (arith, ap length e), (λ e. omega (arith, ap length e), (λ e. omega (arith, ap length e), (λ e. omega (arith, ap length e), (λ e. omega (arith, ap length e), (λ e. omega (arith, ap length e), (λ e. omega (arith, ap length e), (λ e. omega (arith, ap length e), (λ e. omega (arith, ap length e), (λ e. omega (arith, ap length e), (λ e. omega (arith, ap length e), tt))))))))))))

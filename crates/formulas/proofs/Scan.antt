@@ -56,9 +56,10 @@ module _ (text : List ℕ) (p : ℕ) (m : Mode) (at : ℕ) (h : Scan text p m at
 
   pub go : (next : Mode) → Go next ≡ turned m (kind (getD text at 0)) at → Scan text p next (at + 1)
   go next e = let s = said (Go next) e in let low = h .low in record {
-      same = sym (s .0) ∙ sym (here m) ∙ h .same;
-      low = omega arith;
-      begun = s .1 low lt (h .begun) }
+    same = sym (s .0) ∙ sym (here m) ∙ h .same;
+    low = omega arith;
+    begun = s .1 low lt (h .begun);
+  }
 
   pub close-mode : (s : ℕ) → Close s ≡ turned m (kind (getD text at 0)) at → (p ≤ s) × (s < at) × (at ≤ length text)
   close-mode s e = subst (λ n. Begun n p at (length text)) (said (Close s) e .0) (h .begun)

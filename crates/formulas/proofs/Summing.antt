@@ -38,13 +38,13 @@ pub record Partly (room : ℕ) (w0 : Words) (s0 : Store) (xs : Summands) (left :
 
 pub partly-none : {room : ℕ} {w : Words} {s : Store} {xs : Summands} {left : ℕ} → xs .count ≡ 0 → left ≡ 1000 → Partly room w s xs left w s
 partly-none {room} {w} {s} {xs} {left} z e =
-    record
-      { done = none
-      ; wrote = none-summed z
-      ; same = refl
-      ; moved = omega arith
-      ; whole = λ after r v h. as-if (λ stop ws. ap (λ n. products room n 1000 stop ws) (sym z) ∙ ap (λ n. products room (xs .count) n stop ws) (sym e) ∙ sym (then-same (products room (xs .count) left stop ws))) h
-      }
+    record {
+      done = none;
+      wrote = none-summed z;
+      same = refl;
+      moved = omega arith;
+      whole = λ after r v h. as-if (λ stop ws. ap (λ n. products room n 1000 stop ws) (sym z) ∙ ap (λ n. products room (xs .count) n stop ws) (sym e) ∙ sym (then-same (products room (xs .count) left stop ws))) h;
+    }
 
 module _ {room left : ℕ} {w0 w : Words} {s0 s : Store} {xs : Summands} (h : Partly room w0 s0 xs left w s) where
   -- what follows decides
@@ -77,19 +77,19 @@ module _ {room left : ℕ} {w0 w : Words} {s0 s : Store} {xs : Summands} (h : Pa
         let p = a .moved in
         let q = e .moved in
         let first = h .moved in
-        record
-          { done = joined (h .done) (product (k .0) (k .1) none)
-          ; wrote = one-summed (h .wrote) f (follow-room (xs .count) (length (now (w .text))) (items (now (w .text)) (w .pos)) x _ (read-itself a)) n t
-          ; same = e .same ∙ a .same ∙ h .same
-          ; moved = omega arith
-          ; whole = λ fin r u g.
+        record {
+          done = joined (h .done) (product (k .0) (k .1) none);
+          wrote = one-summed (h .wrote) f (follow-room (xs .count) (length (now (w .text))) (items (now (w .text)) (w .pos)) x _ (read-itself a)) n t;
+          same = e .same ∙ a .same ∙ h .same;
+          moved = omega arith;
+          whole = λ fin r u g.
               h .whole fin r u (eased (as-if further-follow (and-so _ a (as-if (λ stop ws. then-then (an-element room x left stop ws) _ _)
               (and-next _ e
-                (as-if
-                  (λ stop ws.
-                    then-then (products room (xs .count + 1) (left - k .0) stop ws) _ _
-                    ∙ then-as (products room (xs .count + 1) (left - k .0) stop ws) _ _ (λ ks rest. ap (λ d. Ok (d, rest)) (sym (joined-joined (h .done) (k .0) (k .1) ks)))
-                    ∙ ap (λ i. further room i (left - k .0) (joined (h .done) (product (k .0) (k .1) none)) stop ws) (sym n)
-                    ∙ ap (λ i. further room (ys .count) i (joined (h .done) (product (k .0) (k .1) none)) stop ws) (ap (λ i. left - i) (sym (f .coefficient)) ∙ sym l))
-                  g))))))
-          }
+              (as-if
+              (λ stop ws.
+              then-then (products room (xs .count + 1) (left - k .0) stop ws) _ _
+              ∙ then-as (products room (xs .count + 1) (left - k .0) stop ws) _ _ (λ ks rest. ap (λ d. Ok (d, rest)) (sym (joined-joined (h .done) (k .0) (k .1) ks)))
+              ∙ ap (λ i. further room i (left - k .0) (joined (h .done) (product (k .0) (k .1) none)) stop ws) (sym n)
+              ∙ ap (λ i. further room (ys .count) i (joined (h .done) (product (k .0) (k .1) none)) stop ws) (ap (λ i. left - i) (sym (f .coefficient)) ∙ sym l))
+              g))))));
+        }

@@ -64,13 +64,13 @@ module _ {A B X Y : Type 0} {V : A → X → Type 0} {U : B → Y → Type 0} {f
   pub and-next : {v : Words} {r : Result Y GrammarFault} {e : ℕ} {x : X} (k : ℕ → A → List Item → Out B) (h : Takes d f V w (Ok x) m) → Takes e (λ stop ws. k stop (h .took .0) ws) U m r v → Takes d (λ stop ws. then (f stop ws) (k stop)) U w r v
   and-next {v} {r} {e} {x} k h n =
       let a = h .took .0 in
-      record
-        { same = n .same ∙ h .same
-        ; moved = moved-on (w .text) (m .text) (w .pos) (m .pos) (v .pos) d e x r (h .same) (h .moved) (n .moved)
-        ; took =
+      record {
+        same = n .same ∙ h .same;
+        moved = moved-on (w .text) (m .text) (w .pos) (m .pos) (v .pos) d e x r (h .same) (h .moved) (n .moved);
+        took =
             took-on U (now (w .text)) _ (k (length (now (w .text)))) a (m .pos) (v .pos) r (h .took .1)
-            (subst (λ t. Taken U (now t) (k (length (now t)) a (items (now t) (m .pos))) r (v .pos)) (h .same) (n .took))
-        }
+            (subst (λ t. Taken U (now t) (k (length (now t)) a (items (now t) (m .pos))) r (v .pos)) (h .same) (n .took));
+      }
 
   pub and-then : {v : Words} {r : Result Y GrammarFault} {e : ℕ} {x : X} (k : ℕ → A → List Item → Out B) → Takes d f V w (Ok x) m → ((a : A) → V a x → Takes e (λ stop ws. k stop a ws) U m r v) → Takes d (λ stop ws. then (f stop ws) (k stop)) U w r v
   and-then k h more = and-next k h (more (h .took .0) (h .took .2))

@@ -57,18 +57,20 @@ module _ {text : List ℕ} (w : Words) (same : now (w .text) ≡ text) (start : 
     parse-stray e = parse-lone ∙ e (h .took .0)
 
     pub whole-done : {s after : Slots} {f : Fills} → items (now (m .text)) (m .pos) ≡ [] → s0 ≡ holding empty s → s1 ≡ holding f after → Whole (parse text) s (Ok (f, n)) after
-    whole-done {s} {after} {f} e a b =
-        (h .took .0, parse-lone ∙ ap (lone (h .took .0)) e,
-         subst (λ z. Wrote state z (holding f after) (h .took .0) n) a (subst (λ z. Wrote state s0 z (h .took .0) n) b (h .took .2)))
+    whole-done {s} {after} {f} e a b = (
+      h .took .0,
+      parse-lone ∙ ap (lone (h .took .0)) e,
+      subst (λ z. Wrote state z (holding f after) (h .took .0) n) a (subst (λ z. Wrote state s0 z (h .took .0) n) b (h .took .2)),
+    )
 
 -- a count that stops serves the test as well as the count itself
 takes-capped : (size f n : ℕ) → capped f ≡ raised 0 n → takes size f ≡ takes size n
 takes-capped size f n e =
     ⊎-elim
-      (λ h. let b = leb-true f 1048576 h in let same : f ≡ n = grind arith in ap (takes size) same)
-      (λ h. let b = leb-false f 1048576 h in let large : 1048576 < n = grind arith in
-            ap (λ x. leb f size && x) h ∙ and-false (leb f size) ∙ sym (and-false (leb n size)) ∙ ap (λ x. leb n size && x) (sym (lt-leb n 1048576 large)))
-      (cases-bool (leb f 1048576))
+    (λ h. let b = leb-true f 1048576 h in let same : f ≡ n = grind arith in ap (takes size) same)
+    (λ h. let b = leb-false f 1048576 h in let large : 1048576 < n = grind arith in
+    ap (λ x. leb f size && x) h ∙ and-false (leb f size) ∙ sym (and-false (leb n size)) ∙ ap (λ x. leb n size && x) (sym (lt-leb n 1048576 large)))
+    (cases-bool (leb f 1048576))
   where
     and-false : (b : Bool) → (b && false) ≡ false
     and-false true = refl
@@ -78,11 +80,11 @@ module _ {t : Tree} {s after : Slots} {f : Fills} {n : ℕ} (w : Wrote state (ho
   fits-counted : (tables : Slots) → fits f tables ≡ fits (fills (lay state 0 t)) tables
   fits-counted tables =
       ap (λ b. b && (takes (length (tables .terms)) (f .terms) && takes (length (tables .alternatives)) (f .alternatives)))
-        (takes-capped (length (tables .nodes)) (f .nodes) (below t + 1) (w .counted .nodes) ∙ ap (takes (length (tables .nodes))) (sym (length-lay state 0 t)))
+      (takes-capped (length (tables .nodes)) (f .nodes) (below t + 1) (w .counted .nodes) ∙ ap (takes (length (tables .nodes))) (sym (length-lay state 0 t)))
       ∙ ap (λ b. takes (length (tables .nodes)) (length (lay state 0 t)) && (b && takes (length (tables .alternatives)) (f .alternatives)))
-        (takes-capped (length (tables .terms)) (f .terms) (term-count t) (w .counted .terms) ∙ ap (takes (length (tables .terms))) (sym (length-term-table state 0 t)))
+      (takes-capped (length (tables .terms)) (f .terms) (term-count t) (w .counted .terms) ∙ ap (takes (length (tables .terms))) (sym (length-term-table state 0 t)))
       ∙ ap (λ b. takes (length (tables .nodes)) (length (lay state 0 t)) && (takes (length (tables .terms)) (length (term-table (lay state 0 t))) && b))
-        (takes-capped (length (tables .alternatives)) (f .alternatives) (step-count t) (w .counted .alternatives) ∙ ap (takes (length (tables .alternatives))) (sym (length-alternative-table state 0 t)))
+      (takes-capped (length (tables .alternatives)) (f .alternatives) (step-count t) (w .counted .alternatives) ∙ ap (takes (length (tables .alternatives))) (sym (length-alternative-table state 0 t)))
 
   -- the tables take the tree
   module _ (fit : fits (fills (lay state 0 t)) s ≡ true) where

@@ -2,7 +2,7 @@
 use mathlib.Core.List.{List, [], _∷_}
 use mathlib.Core.Path.{_≡_}
 use Prim.Native.Nat.{ℕ, _+_, min}
-use denote.Ref.{now}
+use denote.Ref.{now, name}
 use lib.ListN.{length, set}
 use Rattle.formulas.specs.declared.append.AppendList.{AppendList}
 
@@ -25,6 +25,10 @@ pub record Table (X : Type 0) : Type 0 where
 
 abbrev pub table : {X : Type 0} → AppendList X → Table X
 table l = record { slots = now (l .slots); fill = l .fill }
+
+-- a list still lies over the slice that it was made over
+abbrev pub Lent : {X : Type 0} → AppendList X → AppendList X → Type 0
+Lent before after = name (after .slots) ≡ name (before .slots)
 
 -- the entries xs stand behind those of the table, the first of them in the place n
 pub record Puts {X : Type 0} (t : Table X) (xs : List X) (n : ℕ) (after : Table X) : Type 0 where

@@ -29,11 +29,11 @@ extended t xs = record { slots = written (t .slots) (t .fill) xs; fill = raised 
 
 -- lines behind those of the tables
 abbrev pub added : Store → List Line → Store
-added s ls = record
-  { nodes = extended (s .nodes) (node-table (s .terms .fill) (s .alternatives .fill) ls)
-  ; terms = extended (s .terms) (term-table ls)
-  ; alternatives = extended (s .alternatives) (alternative-table ls)
-  }
+added s ls = record {
+  nodes = extended (s .nodes) (node-table (s .terms .fill) (s .alternatives .fill) ls);
+  terms = extended (s .terms) (term-table ls);
+  alternatives = extended (s .alternatives) (alternative-table ls);
+}
 
 -- no count has come to its end
 pub record Small (s : Store) : Type 0 where

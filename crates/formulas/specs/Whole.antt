@@ -6,19 +6,24 @@ use Rattle.std.specs.declared.result.Result.{Result}
 use Rattle.std.specs.declared.result.Result.the-variants.{Ok, Err}
 use Rattle.formulas.specs.declared.fault.GrammarFault.{GrammarFault}
 use Rattle.formulas.specs.declared.node.Fills.{Fills}
+use Rattle.formulas.specs.declared.node.Node.{Node}
+use Rattle.formulas.specs.declared.node.Term.{Term}
 use Rattle.formulas.specs.Grammar.{Item, lone}
 use Rattle.formulas.specs.Lines.{state}
 use Rattle.formulas.specs.Reading.{Slots}
 use Rattle.formulas.specs.Stores.{Store, Wrote}
 use Rattle.formulas.specs.Trees.{Tree}
 
+abbrev pub tables : List Node → List Term → List ℕ → Slots
+tables ns ts alts = record { nodes = ns; terms = ts; alternatives = alts }
+
 -- the tables, filled so far
 abbrev pub holding : Fills → Slots → Store
-holding f s = record
-  { nodes = record { slots = s .nodes; fill = f .nodes }
-  ; terms = record { slots = s .terms; fill = f .terms }
-  ; alternatives = record { slots = s .alternatives; fill = f .alternatives }
-  }
+holding f s = record {
+  nodes = record { slots = s .nodes; fill = f .nodes };
+  terms = record { slots = s .terms; fill = f .terms };
+  alternatives = record { slots = s .alternatives; fill = f .alternatives };
+}
 
 abbrev pub empty : Fills
 empty = record { nodes = 0; terms = 0; alternatives = 0 }

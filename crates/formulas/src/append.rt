@@ -2,7 +2,7 @@
 ghost use mathlib.Core.Path.{_≡_};
 ghost use denote.Ref.{name};
 ghost use mathlib.Core.List.{_∷_, []};
-ghost use Rattle.formulas.specs.Append.{table, Puts};
+ghost use Rattle.formulas.specs.Append.{table, Lent, Puts};
 
 // A table over a lent slice. What passes the slice is counted and not written.
 #[derive(Drop)]
@@ -22,7 +22,7 @@ impl<'a, T: Drop> AppendList<'a, T> {
 
     // Writes where there is room, counts in any case, and answers the entry's place.
     pub fn put(&mut self, x: T) -> u32
-        ensures same { λ _. ⌜ name (now (self .exit) .slots) ≡ name (now (self .entry) .slots) ⌝ }
+        ensures lent { λ _. ⌜ Lent (now (self .entry)) (now (self .exit)) ⌝ }
         ensures puts { λ r. ⌜ Puts (table (now (self .entry))) (x ∷ []) r (table (now (self .exit))) ⌝ }
     {
         let at = self.fill;
@@ -38,7 +38,7 @@ impl<'a, T: Drop> AppendList<'a, T> {
 impl<'a, T: Copy> AppendList<'a, T> {
     // Puts each of the entries, and answers the place of the first.
     pub fn put_all(&mut self, entries: &[T]) -> u32
-        ensures same { λ _. ⌜ name (now (self .exit) .slots) ≡ name (now (self .entry) .slots) ⌝ }
+        ensures lent { λ _. ⌜ Lent (now (self .entry)) (now (self .exit)) ⌝ }
         ensures puts { λ r. ⌜ Puts (table (now (self .entry))) (now (entries .entry)) r (table (now (self .exit))) ⌝ }
     {
         let first = self.fill;

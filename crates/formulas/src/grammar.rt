@@ -2,23 +2,22 @@
 // `room` more parentheses may open.
 ghost use mathlib.Core.Path.{_≡_};
 ghost use Prim.Native.Nat.{_≤_, _<_};
-ghost use denote.Ref.{name};
 ghost use lib.ListN.{take};
 ghost use Rattle.formulas.specs.Layout.{constant-node as constantNode, run};
 ghost use Rattle.formulas.specs.Lines.{Sort.state, Sort.dist};
 ghost use Rattle.formulas.specs.Productions.{a-term as aTerm, inside, pair, negation, diamond as aDiamond, standing, a-sum as aSum, threshold as aThreshold, a-quantity as aQuantity, sum-inside as sumInside, a-product as aProduct, one-product as oneProduct, products as productsFrom, an-element as anElement};
 ghost use Rattle.formulas.specs.Readers.{Takes};
-ghost use Rattle.formulas.specs.Append.{table};
+ghost use Rattle.formulas.specs.Append.{table, Lent};
 ghost use Rattle.formulas.specs.Stores.{store, Wrote, Factored, Summed, PutsMove, PutsHere, PutsSum};
 use crate::append::AppendList;
 use crate::fault::GrammarFault;
+use crate::lexer::Start;
 use crate::lexer::another;
 use crate::lexer::expect;
 use crate::lexer::number;
 use crate::lexer::start_prob;
 use crate::lexer::start_sum;
 use crate::lexer::start_term;
-use crate::lexer::Start;
 use crate::node::DistNode;
 use crate::node::Node;
 use crate::node::Run;
@@ -36,18 +35,32 @@ const THOUSAND: u64 = 1000;
 fn state_constant(yes: bool) -> Node
     ensures { λ r. ⌜ r ≡ constantNode state yes ⌝ }
 {
-    if yes { Node::State(StateNode::Yes) } else { Node::State(StateNode::No) }
+    if yes {
+        Node::State(StateNode::Yes)
+    } else {
+        Node::State(StateNode::No)
+    }
 }
 
 fn dist_constant(yes: bool) -> Node
     ensures { λ r. ⌜ r ≡ constantNode dist yes ⌝ }
 {
-    if yes { Node::Dist(DistNode::Yes) } else { Node::Dist(DistNode::No) }
+    if yes {
+        Node::Dist(DistNode::Yes)
+    } else {
+        Node::Dist(DistNode::No)
+    }
 }
 
 // A state term: answers the number of its node.
-pub(crate) fn state_term(words: &mut Words, nodes: &mut AppendList<Node>, terms: &mut AppendList<Term>, alternatives: &mut AppendList<u32>, room: u32) -> Result<u32, GrammarFault>
-    ensures lent { λ _. ⌜ (name (now (nodes .exit) .slots) ≡ name (now (nodes .entry) .slots)) × (name (now (terms .exit) .slots) ≡ name (now (terms .entry) .slots)) × (name (now (alternatives .exit) .slots) ≡ name (now (alternatives .entry) .slots)) ⌝ }
+pub(crate) fn state_term(
+    words: &mut Words,
+    nodes: &mut AppendList<Node>,
+    terms: &mut AppendList<Term>,
+    alternatives: &mut AppendList<u32>,
+    room: u32,
+) -> Result<u32, GrammarFault>
+    ensures lent { λ _. ⌜ Lent (now (nodes .entry)) (now (nodes .exit)) × Lent (now (terms .entry)) (now (terms .exit)) × Lent (now (alternatives .entry)) (now (alternatives .exit)) ⌝ }
     ensures took { λ r. ⌜ Takes 1 (aTerm room state) (Wrote state (store (now (nodes .entry)) (now (terms .entry)) (now (alternatives .entry))) (store (now (nodes .exit)) (now (terms .exit)) (now (alternatives .exit)))) (now (words .entry)) r (now (words .exit)) ⌝ }
 {
     match start_term(words, room)? {
@@ -57,8 +70,15 @@ pub(crate) fn state_term(words: &mut Words, nodes: &mut AppendList<Node>, terms:
 }
 
 // A state term behind its parenthesis and its first token.
-fn state_inside(words: &mut Words, nodes: &mut AppendList<Node>, terms: &mut AppendList<Term>, alternatives: &mut AppendList<u32>, room: u32, head: Lexeme) -> Result<u32, GrammarFault>
-    ensures lent { λ _. ⌜ (name (now (nodes .exit) .slots) ≡ name (now (nodes .entry) .slots)) × (name (now (terms .exit) .slots) ≡ name (now (terms .entry) .slots)) × (name (now (alternatives .exit) .slots) ≡ name (now (alternatives .entry) .slots)) ⌝ }
+fn state_inside(
+    words: &mut Words,
+    nodes: &mut AppendList<Node>,
+    terms: &mut AppendList<Term>,
+    alternatives: &mut AppendList<u32>,
+    room: u32,
+    head: Lexeme,
+) -> Result<u32, GrammarFault>
+    ensures lent { λ _. ⌜ Lent (now (nodes .entry)) (now (nodes .exit)) × Lent (now (terms .entry)) (now (terms .exit)) × Lent (now (alternatives .entry)) (now (alternatives .exit)) ⌝ }
     ensures took { λ r. ⌜ Takes 1 (inside room state head) (Wrote state (store (now (nodes .entry)) (now (terms .entry)) (now (alternatives .entry))) (store (now (nodes .exit)) (now (terms .exit)) (now (alternatives .exit)))) (now (words .entry)) r (now (words .exit)) ⌝ }
 {
     match head.token {
@@ -70,8 +90,14 @@ fn state_inside(words: &mut Words, nodes: &mut AppendList<Node>, terms: &mut App
     }
 }
 
-fn state_pair(words: &mut Words, nodes: &mut AppendList<Node>, terms: &mut AppendList<Term>, alternatives: &mut AppendList<u32>, room: u32) -> Result<u32, GrammarFault>
-    ensures lent { λ _. ⌜ (name (now (nodes .exit) .slots) ≡ name (now (nodes .entry) .slots)) × (name (now (terms .exit) .slots) ≡ name (now (terms .entry) .slots)) × (name (now (alternatives .exit) .slots) ≡ name (now (alternatives .entry) .slots)) ⌝ }
+fn state_pair(
+    words: &mut Words,
+    nodes: &mut AppendList<Node>,
+    terms: &mut AppendList<Term>,
+    alternatives: &mut AppendList<u32>,
+    room: u32,
+) -> Result<u32, GrammarFault>
+    ensures lent { λ _. ⌜ Lent (now (nodes .entry)) (now (nodes .exit)) × Lent (now (terms .entry)) (now (terms .exit)) × Lent (now (alternatives .entry)) (now (alternatives .exit)) ⌝ }
     ensures took { λ r. ⌜ Takes 1 (pair room state) (Wrote state (store (now (nodes .entry)) (now (terms .entry)) (now (alternatives .entry))) (store (now (nodes .exit)) (now (terms .exit)) (now (alternatives .exit)))) (now (words .entry)) r (now (words .exit)) ⌝ }
 {
     let a = state_term(words, nodes, terms, alternatives, room)?;
@@ -80,8 +106,14 @@ fn state_pair(words: &mut Words, nodes: &mut AppendList<Node>, terms: &mut Appen
     Ok(nodes.put(Node::State(StateNode::And(a, b))))
 }
 
-fn state_negation(words: &mut Words, nodes: &mut AppendList<Node>, terms: &mut AppendList<Term>, alternatives: &mut AppendList<u32>, room: u32) -> Result<u32, GrammarFault>
-    ensures lent { λ _. ⌜ (name (now (nodes .exit) .slots) ≡ name (now (nodes .entry) .slots)) × (name (now (terms .exit) .slots) ≡ name (now (terms .entry) .slots)) × (name (now (alternatives .exit) .slots) ≡ name (now (alternatives .entry) .slots)) ⌝ }
+fn state_negation(
+    words: &mut Words,
+    nodes: &mut AppendList<Node>,
+    terms: &mut AppendList<Term>,
+    alternatives: &mut AppendList<u32>,
+    room: u32,
+) -> Result<u32, GrammarFault>
+    ensures lent { λ _. ⌜ Lent (now (nodes .entry)) (now (nodes .exit)) × Lent (now (terms .entry)) (now (terms .exit)) × Lent (now (alternatives .entry)) (now (alternatives .exit)) ⌝ }
     ensures took { λ r. ⌜ Takes 1 (negation room state) (Wrote state (store (now (nodes .entry)) (now (terms .entry)) (now (alternatives .entry))) (store (now (nodes .exit)) (now (terms .exit)) (now (alternatives .exit)))) (now (words .entry)) r (now (words .exit)) ⌝ }
 {
     let a = state_term(words, nodes, terms, alternatives, room)?;
@@ -90,40 +122,73 @@ fn state_negation(words: &mut Words, nodes: &mut AppendList<Node>, terms: &mut A
 }
 
 // Writes a step with one move alternative.
-fn put_move(nodes: &mut AppendList<Node>, alternatives: &mut AppendList<u32>, action: u32, part: u32) -> u32
-    ensures lent { λ _. ⌜ (name (now (nodes .exit) .slots) ≡ name (now (nodes .entry) .slots)) × (name (now (alternatives .exit) .slots) ≡ name (now (alternatives .entry) .slots)) ⌝ }
+fn put_move(
+    nodes: &mut AppendList<Node>,
+    alternatives: &mut AppendList<u32>,
+    action: u32,
+    part: u32,
+) -> u32
+    ensures lent { λ _. ⌜ Lent (now (nodes .entry)) (now (nodes .exit)) × Lent (now (alternatives .entry)) (now (alternatives .exit)) ⌝ }
     ensures wrote { λ r. ⌜ PutsMove (table (now (nodes .entry))) (table (now (alternatives .entry))) action part r (table (now (nodes .exit))) (table (now (alternatives .exit))) ⌝ }
 {
     let first = alternatives.put(part);
     let moves = Run { first, count: 1 };
-    let heres = Run { first: alternatives.fill, count: 0 };
-    nodes.put(Node::State(StateNode::Step { action, moves, heres }))
+    let heres = Run {
+        first: alternatives.fill,
+        count: 0,
+    };
+    nodes.put(Node::State(StateNode::Step {
+        action,
+        moves,
+        heres,
+    }))
 }
 
 // Writes a step with one here alternative.
 fn put_here(nodes: &mut AppendList<Node>, alternatives: &mut AppendList<u32>, part: u32) -> u32
-    ensures lent { λ _. ⌜ (name (now (nodes .exit) .slots) ≡ name (now (nodes .entry) .slots)) × (name (now (alternatives .exit) .slots) ≡ name (now (alternatives .entry) .slots)) ⌝ }
+    ensures lent { λ _. ⌜ Lent (now (nodes .entry)) (now (nodes .exit)) × Lent (now (alternatives .entry)) (now (alternatives .exit)) ⌝ }
     ensures wrote { λ r. ⌜ PutsHere (table (now (nodes .entry))) (table (now (alternatives .entry))) part r (table (now (nodes .exit))) (table (now (alternatives .exit))) ⌝ }
 {
-    let moves = Run { first: alternatives.fill, count: 0 };
+    let moves = Run {
+        first: alternatives.fill,
+        count: 0,
+    };
     let first = alternatives.put(part);
     let heres = Run { first, count: 1 };
-    nodes.put(Node::State(StateNode::Step { action: 0, moves, heres }))
+    nodes.put(Node::State(StateNode::Step {
+        action: 0,
+        moves,
+        heres,
+    }))
 }
 
 // Writes a sum and its terms.
-fn put_sum(nodes: &mut AppendList<Node>, terms: &mut AppendList<Term>, summands: &Summands, threshold: u64) -> u32
+fn put_sum(
+    nodes: &mut AppendList<Node>,
+    terms: &mut AppendList<Term>,
+    summands: &Summands,
+    threshold: u64,
+) -> u32
     requires { ⌜ now summands .count ≤ 8 ⌝ }
-    ensures lent { λ _. ⌜ (name (now (nodes .exit) .slots) ≡ name (now (nodes .entry) .slots)) × (name (now (terms .exit) .slots) ≡ name (now (terms .entry) .slots)) ⌝ }
+    ensures lent { λ _. ⌜ Lent (now (nodes .entry)) (now (nodes .exit)) × Lent (now (terms .entry)) (now (terms .exit)) ⌝ }
     ensures wrote { λ r. ⌜ PutsSum (table (now (nodes .entry))) (table (now (terms .entry))) (take (now (summands .entry) .count) (now (summands .entry) .terms)) threshold r (table (now (nodes .exit))) (table (now (terms .exit))) ⌝ }
 {
     let first = terms.put_all(&summands.terms[0..summands.count]);
-    let terms = Run { first, count: summands.count as u32 };
+    let terms = Run {
+        first,
+        count: summands.count as u32,
+    };
     nodes.put(Node::Dist(DistNode::Sum { threshold, terms }))
 }
 
-fn diamond(words: &mut Words, nodes: &mut AppendList<Node>, terms: &mut AppendList<Term>, alternatives: &mut AppendList<u32>, room: u32) -> Result<u32, GrammarFault>
-    ensures lent { λ _. ⌜ (name (now (nodes .exit) .slots) ≡ name (now (nodes .entry) .slots)) × (name (now (terms .exit) .slots) ≡ name (now (terms .entry) .slots)) × (name (now (alternatives .exit) .slots) ≡ name (now (alternatives .entry) .slots)) ⌝ }
+fn diamond(
+    words: &mut Words,
+    nodes: &mut AppendList<Node>,
+    terms: &mut AppendList<Term>,
+    alternatives: &mut AppendList<u32>,
+    room: u32,
+) -> Result<u32, GrammarFault>
+    ensures lent { λ _. ⌜ Lent (now (nodes .entry)) (now (nodes .exit)) × Lent (now (terms .entry)) (now (terms .exit)) × Lent (now (alternatives .entry)) (now (alternatives .exit)) ⌝ }
     ensures took { λ r. ⌜ Takes 1 (aDiamond room) (Wrote state (store (now (nodes .entry)) (now (terms .entry)) (now (alternatives .entry))) (store (now (nodes .exit)) (now (terms .exit)) (now (alternatives .exit)))) (now (words .entry)) r (now (words .exit)) ⌝ }
 {
     let action = number(words, 0, MOST_ACTION)?;
@@ -132,8 +197,14 @@ fn diamond(words: &mut Words, nodes: &mut AppendList<Node>, terms: &mut AppendLi
     Ok(put_move(nodes, alternatives, action as u32, d))
 }
 
-fn here(words: &mut Words, nodes: &mut AppendList<Node>, terms: &mut AppendList<Term>, alternatives: &mut AppendList<u32>, room: u32) -> Result<u32, GrammarFault>
-    ensures lent { λ _. ⌜ (name (now (nodes .exit) .slots) ≡ name (now (nodes .entry) .slots)) × (name (now (terms .exit) .slots) ≡ name (now (terms .entry) .slots)) × (name (now (alternatives .exit) .slots) ≡ name (now (alternatives .entry) .slots)) ⌝ }
+fn here(
+    words: &mut Words,
+    nodes: &mut AppendList<Node>,
+    terms: &mut AppendList<Term>,
+    alternatives: &mut AppendList<u32>,
+    room: u32,
+) -> Result<u32, GrammarFault>
+    ensures lent { λ _. ⌜ Lent (now (nodes .entry)) (now (nodes .exit)) × Lent (now (terms .entry)) (now (terms .exit)) × Lent (now (alternatives .entry)) (now (alternatives .exit)) ⌝ }
     ensures took { λ r. ⌜ Takes 1 (standing room) (Wrote state (store (now (nodes .entry)) (now (terms .entry)) (now (alternatives .entry))) (store (now (nodes .exit)) (now (terms .exit)) (now (alternatives .exit)))) (now (words .entry)) r (now (words .exit)) ⌝ }
 {
     let d = dist_term(words, nodes, terms, alternatives, room)?;
@@ -142,8 +213,14 @@ fn here(words: &mut Words, nodes: &mut AppendList<Node>, terms: &mut AppendList<
 }
 
 // A distribution term: answers the number of its node.
-fn dist_term(words: &mut Words, nodes: &mut AppendList<Node>, terms: &mut AppendList<Term>, alternatives: &mut AppendList<u32>, room: u32) -> Result<u32, GrammarFault>
-    ensures lent { λ _. ⌜ (name (now (nodes .exit) .slots) ≡ name (now (nodes .entry) .slots)) × (name (now (terms .exit) .slots) ≡ name (now (terms .entry) .slots)) × (name (now (alternatives .exit) .slots) ≡ name (now (alternatives .entry) .slots)) ⌝ }
+fn dist_term(
+    words: &mut Words,
+    nodes: &mut AppendList<Node>,
+    terms: &mut AppendList<Term>,
+    alternatives: &mut AppendList<u32>,
+    room: u32,
+) -> Result<u32, GrammarFault>
+    ensures lent { λ _. ⌜ Lent (now (nodes .entry)) (now (nodes .exit)) × Lent (now (terms .entry)) (now (terms .exit)) × Lent (now (alternatives .entry)) (now (alternatives .exit)) ⌝ }
     ensures took { λ r. ⌜ Takes 1 (aTerm room dist) (Wrote dist (store (now (nodes .entry)) (now (terms .entry)) (now (alternatives .entry))) (store (now (nodes .exit)) (now (terms .exit)) (now (alternatives .exit)))) (now (words .entry)) r (now (words .exit)) ⌝ }
 {
     match start_term(words, room)? {
@@ -153,8 +230,15 @@ fn dist_term(words: &mut Words, nodes: &mut AppendList<Node>, terms: &mut Append
 }
 
 // A distribution term behind its parenthesis and its first token.
-fn dist_inside(words: &mut Words, nodes: &mut AppendList<Node>, terms: &mut AppendList<Term>, alternatives: &mut AppendList<u32>, room: u32, head: Lexeme) -> Result<u32, GrammarFault>
-    ensures lent { λ _. ⌜ (name (now (nodes .exit) .slots) ≡ name (now (nodes .entry) .slots)) × (name (now (terms .exit) .slots) ≡ name (now (terms .entry) .slots)) × (name (now (alternatives .exit) .slots) ≡ name (now (alternatives .entry) .slots)) ⌝ }
+fn dist_inside(
+    words: &mut Words,
+    nodes: &mut AppendList<Node>,
+    terms: &mut AppendList<Term>,
+    alternatives: &mut AppendList<u32>,
+    room: u32,
+    head: Lexeme,
+) -> Result<u32, GrammarFault>
+    ensures lent { λ _. ⌜ Lent (now (nodes .entry)) (now (nodes .exit)) × Lent (now (terms .entry)) (now (terms .exit)) × Lent (now (alternatives .entry)) (now (alternatives .exit)) ⌝ }
     ensures took { λ r. ⌜ Takes 1 (inside room dist head) (Wrote dist (store (now (nodes .entry)) (now (terms .entry)) (now (alternatives .entry))) (store (now (nodes .exit)) (now (terms .exit)) (now (alternatives .exit)))) (now (words .entry)) r (now (words .exit)) ⌝ }
 {
     match head.token {
@@ -165,8 +249,14 @@ fn dist_inside(words: &mut Words, nodes: &mut AppendList<Node>, terms: &mut Appe
     }
 }
 
-fn dist_pair(words: &mut Words, nodes: &mut AppendList<Node>, terms: &mut AppendList<Term>, alternatives: &mut AppendList<u32>, room: u32) -> Result<u32, GrammarFault>
-    ensures lent { λ _. ⌜ (name (now (nodes .exit) .slots) ≡ name (now (nodes .entry) .slots)) × (name (now (terms .exit) .slots) ≡ name (now (terms .entry) .slots)) × (name (now (alternatives .exit) .slots) ≡ name (now (alternatives .entry) .slots)) ⌝ }
+fn dist_pair(
+    words: &mut Words,
+    nodes: &mut AppendList<Node>,
+    terms: &mut AppendList<Term>,
+    alternatives: &mut AppendList<u32>,
+    room: u32,
+) -> Result<u32, GrammarFault>
+    ensures lent { λ _. ⌜ Lent (now (nodes .entry)) (now (nodes .exit)) × Lent (now (terms .entry)) (now (terms .exit)) × Lent (now (alternatives .entry)) (now (alternatives .exit)) ⌝ }
     ensures took { λ r. ⌜ Takes 1 (pair room dist) (Wrote dist (store (now (nodes .entry)) (now (terms .entry)) (now (alternatives .entry))) (store (now (nodes .exit)) (now (terms .exit)) (now (alternatives .exit)))) (now (words .entry)) r (now (words .exit)) ⌝ }
 {
     let a = dist_term(words, nodes, terms, alternatives, room)?;
@@ -175,8 +265,14 @@ fn dist_pair(words: &mut Words, nodes: &mut AppendList<Node>, terms: &mut Append
     Ok(nodes.put(Node::Dist(DistNode::And(a, b))))
 }
 
-fn dist_negation(words: &mut Words, nodes: &mut AppendList<Node>, terms: &mut AppendList<Term>, alternatives: &mut AppendList<u32>, room: u32) -> Result<u32, GrammarFault>
-    ensures lent { λ _. ⌜ (name (now (nodes .exit) .slots) ≡ name (now (nodes .entry) .slots)) × (name (now (terms .exit) .slots) ≡ name (now (terms .entry) .slots)) × (name (now (alternatives .exit) .slots) ≡ name (now (alternatives .entry) .slots)) ⌝ }
+fn dist_negation(
+    words: &mut Words,
+    nodes: &mut AppendList<Node>,
+    terms: &mut AppendList<Term>,
+    alternatives: &mut AppendList<u32>,
+    room: u32,
+) -> Result<u32, GrammarFault>
+    ensures lent { λ _. ⌜ Lent (now (nodes .entry)) (now (nodes .exit)) × Lent (now (terms .entry)) (now (terms .exit)) × Lent (now (alternatives .entry)) (now (alternatives .exit)) ⌝ }
     ensures took { λ r. ⌜ Takes 1 (negation room dist) (Wrote dist (store (now (nodes .entry)) (now (terms .entry)) (now (alternatives .entry))) (store (now (nodes .exit)) (now (terms .exit)) (now (alternatives .exit)))) (now (words .entry)) r (now (words .exit)) ⌝ }
 {
     let a = dist_term(words, nodes, terms, alternatives, room)?;
@@ -184,8 +280,14 @@ fn dist_negation(words: &mut Words, nodes: &mut AppendList<Node>, terms: &mut Ap
     Ok(nodes.put(Node::Dist(DistNode::Not(a))))
 }
 
-fn at_least(words: &mut Words, nodes: &mut AppendList<Node>, terms: &mut AppendList<Term>, alternatives: &mut AppendList<u32>, room: u32) -> Result<u32, GrammarFault>
-    ensures lent { λ _. ⌜ (name (now (nodes .exit) .slots) ≡ name (now (nodes .entry) .slots)) × (name (now (terms .exit) .slots) ≡ name (now (terms .entry) .slots)) × (name (now (alternatives .exit) .slots) ≡ name (now (alternatives .entry) .slots)) ⌝ }
+fn at_least(
+    words: &mut Words,
+    nodes: &mut AppendList<Node>,
+    terms: &mut AppendList<Term>,
+    alternatives: &mut AppendList<u32>,
+    room: u32,
+) -> Result<u32, GrammarFault>
+    ensures lent { λ _. ⌜ Lent (now (nodes .entry)) (now (nodes .exit)) × Lent (now (terms .entry)) (now (terms .exit)) × Lent (now (alternatives .entry)) (now (alternatives .exit)) ⌝ }
     ensures took { λ r. ⌜ Takes 1 (aThreshold room) (Wrote dist (store (now (nodes .entry)) (now (terms .entry)) (now (alternatives .entry))) (store (now (nodes .exit)) (now (terms .exit)) (now (alternatives .exit)))) (now (words .entry)) r (now (words .exit)) ⌝ }
 {
     let summands = sum(words, nodes, terms, alternatives, room)?;
@@ -195,8 +297,14 @@ fn at_least(words: &mut Words, nodes: &mut AppendList<Node>, terms: &mut AppendL
 }
 
 // The sum of a threshold: its terms are kept until the threshold closes.
-fn sum(words: &mut Words, nodes: &mut AppendList<Node>, terms: &mut AppendList<Term>, alternatives: &mut AppendList<u32>, room: u32) -> Result<Summands, GrammarFault>
-    ensures lent { λ _. ⌜ (name (now (nodes .exit) .slots) ≡ name (now (nodes .entry) .slots)) × (name (now (terms .exit) .slots) ≡ name (now (terms .entry) .slots)) × (name (now (alternatives .exit) .slots) ≡ name (now (alternatives .entry) .slots)) ⌝ }
+fn sum(
+    words: &mut Words,
+    nodes: &mut AppendList<Node>,
+    terms: &mut AppendList<Term>,
+    alternatives: &mut AppendList<u32>,
+    room: u32,
+) -> Result<Summands, GrammarFault>
+    ensures lent { λ _. ⌜ Lent (now (nodes .entry)) (now (nodes .exit)) × Lent (now (terms .entry)) (now (terms .exit)) × Lent (now (alternatives .entry)) (now (alternatives .exit)) ⌝ }
     ensures took { λ r. ⌜ Takes 1 (aSum room) (Summed (store (now (nodes .entry)) (now (terms .entry)) (now (alternatives .entry))) (store (now (nodes .exit)) (now (terms .exit)) (now (alternatives .exit)))) (now (words .entry)) r (now (words .exit)) ⌝ }
 {
     match start_sum(words, room)? {
@@ -205,8 +313,15 @@ fn sum(words: &mut Words, nodes: &mut AppendList<Node>, terms: &mut AppendList<T
     }
 }
 
-fn sum_inside(words: &mut Words, nodes: &mut AppendList<Node>, terms: &mut AppendList<Term>, alternatives: &mut AppendList<u32>, room: u32, head: Lexeme) -> Result<Summands, GrammarFault>
-    ensures lent { λ _. ⌜ (name (now (nodes .exit) .slots) ≡ name (now (nodes .entry) .slots)) × (name (now (terms .exit) .slots) ≡ name (now (terms .entry) .slots)) × (name (now (alternatives .exit) .slots) ≡ name (now (alternatives .entry) .slots)) ⌝ }
+fn sum_inside(
+    words: &mut Words,
+    nodes: &mut AppendList<Node>,
+    terms: &mut AppendList<Term>,
+    alternatives: &mut AppendList<u32>,
+    room: u32,
+    head: Lexeme,
+) -> Result<Summands, GrammarFault>
+    ensures lent { λ _. ⌜ Lent (now (nodes .entry)) (now (nodes .exit)) × Lent (now (terms .entry)) (now (terms .exit)) × Lent (now (alternatives .entry)) (now (alternatives .exit)) ⌝ }
     ensures took { λ r. ⌜ Takes 0 (sumInside room head) (Summed (store (now (nodes .entry)) (now (terms .entry)) (now (alternatives .entry))) (store (now (nodes .exit)) (now (terms .exit)) (now (alternatives .exit)))) (now (words .entry)) r (now (words .exit)) ⌝ }
 {
     match head.token {
@@ -216,8 +331,14 @@ fn sum_inside(words: &mut Words, nodes: &mut AppendList<Node>, terms: &mut Appen
     }
 }
 
-fn single(words: &mut Words, nodes: &mut AppendList<Node>, terms: &mut AppendList<Term>, alternatives: &mut AppendList<u32>, room: u32) -> Result<Summands, GrammarFault>
-    ensures lent { λ _. ⌜ (name (now (nodes .exit) .slots) ≡ name (now (nodes .entry) .slots)) × (name (now (terms .exit) .slots) ≡ name (now (terms .entry) .slots)) × (name (now (alternatives .exit) .slots) ≡ name (now (alternatives .entry) .slots)) ⌝ }
+fn single(
+    words: &mut Words,
+    nodes: &mut AppendList<Node>,
+    terms: &mut AppendList<Term>,
+    alternatives: &mut AppendList<u32>,
+    room: u32,
+) -> Result<Summands, GrammarFault>
+    ensures lent { λ _. ⌜ Lent (now (nodes .entry)) (now (nodes .exit)) × Lent (now (terms .entry)) (now (terms .exit)) × Lent (now (alternatives .entry)) (now (alternatives .exit)) ⌝ }
     ensures took { λ r. ⌜ Takes 1 (oneProduct room) (Summed (store (now (nodes .entry)) (now (terms .entry)) (now (alternatives .entry))) (store (now (nodes .exit)) (now (terms .exit)) (now (alternatives .exit)))) (now (words .entry)) r (now (words .exit)) ⌝ }
 {
     let term = product(words, nodes, terms, alternatives, room, THOUSAND)?;
@@ -226,8 +347,14 @@ fn single(words: &mut Words, nodes: &mut AppendList<Node>, terms: &mut AppendLis
     Ok(found)
 }
 
-fn several(words: &mut Words, nodes: &mut AppendList<Node>, terms: &mut AppendList<Term>, alternatives: &mut AppendList<u32>, room: u32) -> Result<Summands, GrammarFault>
-    ensures lent { λ _. ⌜ (name (now (nodes .exit) .slots) ≡ name (now (nodes .entry) .slots)) × (name (now (terms .exit) .slots) ≡ name (now (terms .entry) .slots)) × (name (now (alternatives .exit) .slots) ≡ name (now (alternatives .entry) .slots)) ⌝ }
+fn several(
+    words: &mut Words,
+    nodes: &mut AppendList<Node>,
+    terms: &mut AppendList<Term>,
+    alternatives: &mut AppendList<u32>,
+    room: u32,
+) -> Result<Summands, GrammarFault>
+    ensures lent { λ _. ⌜ Lent (now (nodes .entry)) (now (nodes .exit)) × Lent (now (terms .entry)) (now (terms .exit)) × Lent (now (alternatives .entry)) (now (alternatives .exit)) ⌝ }
     ensures took { λ r. ⌜ Takes 0 (productsFrom room 0 1000) (Summed (store (now (nodes .entry)) (now (terms .entry)) (now (alternatives .entry))) (store (now (nodes .exit)) (now (terms .exit)) (now (alternatives .exit)))) (now (words .entry)) r (now (words .exit)) ⌝ }
 {
     let mut found = Summands::none();
@@ -241,8 +368,16 @@ fn several(words: &mut Words, nodes: &mut AppendList<Node>, terms: &mut AppendLi
 }
 
 // One of several products, behind its parenthesis `x`.
-fn element(words: &mut Words, nodes: &mut AppendList<Node>, terms: &mut AppendList<Term>, alternatives: &mut AppendList<u32>, room: u32, x: Lexeme, left: u64) -> Result<Term, GrammarFault>
-    ensures lent { λ _. ⌜ (name (now (nodes .exit) .slots) ≡ name (now (nodes .entry) .slots)) × (name (now (terms .exit) .slots) ≡ name (now (terms .entry) .slots)) × (name (now (alternatives .exit) .slots) ≡ name (now (alternatives .entry) .slots)) ⌝ }
+fn element(
+    words: &mut Words,
+    nodes: &mut AppendList<Node>,
+    terms: &mut AppendList<Term>,
+    alternatives: &mut AppendList<u32>,
+    room: u32,
+    x: Lexeme,
+    left: u64,
+) -> Result<Term, GrammarFault>
+    ensures lent { λ _. ⌜ Lent (now (nodes .entry)) (now (nodes .exit)) × Lent (now (terms .entry)) (now (terms .exit)) × Lent (now (alternatives .entry)) (now (alternatives .exit)) ⌝ }
     ensures took { λ r. ⌜ Takes 1 (anElement room x left) (Factored left (store (now (nodes .entry)) (now (terms .entry)) (now (alternatives .entry))) (store (now (nodes .exit)) (now (terms .exit)) (now (alternatives .exit)))) (now (words .entry)) r (now (words .exit)) ⌝ }
 {
     if room == 0 {
@@ -253,8 +388,15 @@ fn element(words: &mut Words, nodes: &mut AppendList<Node>, terms: &mut AppendLi
 }
 
 // A product behind its `*`, of a coefficient of at most `left`.
-fn product(words: &mut Words, nodes: &mut AppendList<Node>, terms: &mut AppendList<Term>, alternatives: &mut AppendList<u32>, room: u32, left: u64) -> Result<Term, GrammarFault>
-    ensures lent { λ _. ⌜ (name (now (nodes .exit) .slots) ≡ name (now (nodes .entry) .slots)) × (name (now (terms .exit) .slots) ≡ name (now (terms .entry) .slots)) × (name (now (alternatives .exit) .slots) ≡ name (now (alternatives .entry) .slots)) ⌝ }
+fn product(
+    words: &mut Words,
+    nodes: &mut AppendList<Node>,
+    terms: &mut AppendList<Term>,
+    alternatives: &mut AppendList<u32>,
+    room: u32,
+    left: u64,
+) -> Result<Term, GrammarFault>
+    ensures lent { λ _. ⌜ Lent (now (nodes .entry)) (now (nodes .exit)) × Lent (now (terms .entry)) (now (terms .exit)) × Lent (now (alternatives .entry)) (now (alternatives .exit)) ⌝ }
     ensures took { λ r. ⌜ Takes 1 (aProduct room left) (Factored left (store (now (nodes .entry)) (now (terms .entry)) (now (alternatives .entry))) (store (now (nodes .exit)) (now (terms .exit)) (now (alternatives .exit)))) (now (words .entry)) r (now (words .exit)) ⌝ }
 {
     let coefficient = number(words, 1, left)?;
@@ -263,8 +405,14 @@ fn product(words: &mut Words, nodes: &mut AppendList<Node>, terms: &mut AppendLi
     Ok(Term { coefficient, node })
 }
 
-fn quantity(words: &mut Words, nodes: &mut AppendList<Node>, terms: &mut AppendList<Term>, alternatives: &mut AppendList<u32>, room: u32) -> Result<u32, GrammarFault>
-    ensures lent { λ _. ⌜ (name (now (nodes .exit) .slots) ≡ name (now (nodes .entry) .slots)) × (name (now (terms .exit) .slots) ≡ name (now (terms .entry) .slots)) × (name (now (alternatives .exit) .slots) ≡ name (now (alternatives .entry) .slots)) ⌝ }
+fn quantity(
+    words: &mut Words,
+    nodes: &mut AppendList<Node>,
+    terms: &mut AppendList<Term>,
+    alternatives: &mut AppendList<u32>,
+    room: u32,
+) -> Result<u32, GrammarFault>
+    ensures lent { λ _. ⌜ Lent (now (nodes .entry)) (now (nodes .exit)) × Lent (now (terms .entry)) (now (terms .exit)) × Lent (now (alternatives .entry)) (now (alternatives .exit)) ⌝ }
     ensures took { λ r. ⌜ Takes 1 (aQuantity room) (Wrote state (store (now (nodes .entry)) (now (terms .entry)) (now (alternatives .entry))) (store (now (nodes .exit)) (now (terms .exit)) (now (alternatives .exit)))) (now (words .entry)) r (now (words .exit)) ⌝ }
 {
     start_prob(words, room)?;

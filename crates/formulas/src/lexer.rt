@@ -21,6 +21,7 @@ pub enum Start {
 
 // How many products a sum behind a plus has.
 const FEWEST: usize = 2;
+
 const MOST: usize = 8;
 
 // The next word and its token, or nothing at the end of the text.
@@ -31,7 +32,10 @@ pub fn scan(words: &mut Words) -> Result<Option<Lexeme>, WordFault>
     match words.next_word() {
         None => Ok(None),
         Some(word) => match token_of(word.bytes) {
-            Some(token) => Ok(Some(Lexeme { token, place: word.place })),
+            Some(token) => Ok(Some(Lexeme {
+                token,
+                place: word.place,
+            })),
             None => Err(WordFault { place: word.place }),
         },
     }

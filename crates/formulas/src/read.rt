@@ -4,7 +4,7 @@ ghost use mathlib.Core.Path.{_≡_};
 ghost use lib.ListN.{length};
 ghost use Rattle.formulas.specs.Grammar.{items, parse};
 ghost use Rattle.formulas.specs.Reading.{takes as takesOf, reading, Reads};
-ghost use Rattle.formulas.specs.Whole.{Ends, Whole};
+ghost use Rattle.formulas.specs.Whole.{tables, Ends, Whole};
 use crate::append::AppendList;
 use crate::draft::Draft;
 use crate::draft::MOST_ENTRIES;
@@ -33,16 +33,31 @@ fn end(words: &mut Words) -> Result<(), GrammarFault>
 }
 
 // One pass over a text: writes its formula as far as the tables reach, and answers the formula's counts and its root.
-fn whole(text: &[u8], nodes: &mut [Node], terms: &mut [Term], alternatives: &mut [u32]) -> Result<(Fills, u32), GrammarFault>
-    ensures { λ r. ⌜ Whole (parse (now (text .entry))) (record { nodes = now (nodes .entry); terms = now (terms .entry); alternatives = now (alternatives .entry) }) r (record { nodes = now (nodes .exit); terms = now (terms .exit); alternatives = now (alternatives .exit) }) ⌝ }
+fn whole(
+    text: &[u8],
+    nodes: &mut [Node],
+    terms: &mut [Term],
+    alternatives: &mut [u32],
+) -> Result<(Fills, u32), GrammarFault>
+    ensures { λ r. ⌜ Whole (parse (now (text .entry))) (tables (now (nodes .entry)) (now (terms .entry)) (now (alternatives .entry))) r (tables (now (nodes .exit)) (now (terms .exit)) (now (alternatives .exit))) ⌝ }
 {
     let mut words = Words::new(text);
     let mut nodes = AppendList::new(nodes);
     let mut terms = AppendList::new(terms);
     let mut alternatives = AppendList::new(alternatives);
-    let root = state_term(&mut words, &mut nodes, &mut terms, &mut alternatives, MOST_OPEN)?;
+    let root = state_term(
+        &mut words,
+        &mut nodes,
+        &mut terms,
+        &mut alternatives,
+        MOST_OPEN,
+    )?;
     end(&mut words)?;
-    let fills = Fills { nodes: nodes.fill, terms: terms.fill, alternatives: alternatives.fill };
+    let fills = Fills {
+        nodes: nodes.fill,
+        terms: terms.fill,
+        alternatives: alternatives.fill,
+    };
     Ok((fills, root))
 }
 
@@ -60,8 +75,13 @@ fn take_all(nodes: usize, terms: usize, alternatives: usize, need: Fills) -> boo
 }
 
 // Reads a text twice: to count what it needs, and, where the tables take that, to write it.
-pub fn read(text: &[u8], nodes: &mut [Node], terms: &mut [Term], alternatives: &mut [u32]) -> Result<Draft, ReadFault>
-    ensures { λ r. ⌜ Reads (reading (now (text .entry)) (record { nodes = now (nodes .entry); terms = now (terms .entry); alternatives = now (alternatives .entry) })) (record { nodes = now (nodes .entry); terms = now (terms .entry); alternatives = now (alternatives .entry) }) r (record { nodes = now (nodes .exit); terms = now (terms .exit); alternatives = now (alternatives .exit) }) ⌝ }
+pub fn read(
+    text: &[u8],
+    nodes: &mut [Node],
+    terms: &mut [Term],
+    alternatives: &mut [u32],
+) -> Result<Draft, ReadFault>
+    ensures { λ r. ⌜ Reads (reading (now (text .entry)) (tables (now (nodes .entry)) (now (terms .entry)) (now (alternatives .entry)))) (tables (now (nodes .entry)) (now (terms .entry)) (now (alternatives .entry))) r (tables (now (nodes .exit)) (now (terms .exit)) (now (alternatives .exit))) ⌝ }
 {
     let mut no_nodes: [Node; 0] = [];
     let mut no_terms: [Term; 0] = [];

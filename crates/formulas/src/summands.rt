@@ -15,7 +15,13 @@ impl Summands {
     pub(crate) fn none() -> Summands
         ensures { λ r. ⌜ r .count ≡ 0 ⌝ }
     {
-        Summands { terms: [Term { coefficient: 0, node: 0 }; 8], count: 0 }
+        Summands {
+            terms: [Term {
+                coefficient: 0,
+                node: 0,
+            }; 8],
+            count: 0,
+        }
     }
 
     pub(crate) fn push(&mut self, term: Term)

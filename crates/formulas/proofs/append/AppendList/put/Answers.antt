@@ -5,4 +5,4 @@ use Rattle.formulas.proofs.append.AppendList.put.Needs as need
 
 pub returns-then-at-self : need.returns-then-at-self
 returns-then-at-self g c =
-    record { same = refl; puts = record { place = refl; fill = search needs; slots = sym (set-past _ _ _ (c .if-at-self .taken)) } }
+    record { lent = refl; puts = record { place = refl; fill = search needs; slots = sym (set-past _ _ _ (c .if-at-self .taken)) } }
