@@ -25,7 +25,9 @@ fn run_job(rt: &LibcRuntime, path: &str, text: &str) -> Result<(), AnyError> {
 }
 
 fn main(rt: LibcRuntime) -> Result<(), AnyError> {
+    let mut given = false;
     for path in env::args(&rt)?.skip(1) {
+        given = true;
         let text = match fs::read_to_string(&rt, path.as_str()) {
             Ok(text) => text,
             Err(fault) => {
@@ -35,6 +37,10 @@ fn main(rt: LibcRuntime) -> Result<(), AnyError> {
             }
         };
         run_job(&rt, path.as_str(), text.as_str())?;
+    }
+    if !given {
+        eprintln!(rt, "usage: qcheck FILE..")?;
+        return Err("no job is given".into());
     }
     Ok(())
 }
