@@ -5,3 +5,5 @@ pub mod Spots
 pub mod Sums
 pub mod Rows
 pub mod Boards
+pub mod WellFormed
+pub mod Simplify
