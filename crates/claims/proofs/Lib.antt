@@ -8,3 +8,7 @@ pub mod Reached
 pub mod Lookups
 pub mod Pastes
 pub mod Judging
+pub mod Lists
+pub mod Outcomes
+pub mod Prune
+pub mod Puts

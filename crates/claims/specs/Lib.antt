@@ -7,3 +7,5 @@ pub mod Rows
 pub mod Boards
 pub mod WellFormed
 pub mod Simplify
+pub mod Simplified
+pub mod Shrinking

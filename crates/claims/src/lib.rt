@@ -4,6 +4,7 @@ pub mod fault;
 pub mod judge;
 pub mod opening;
 mod row;
+mod settle;
 mod spot;
 mod sum;
 pub mod tables;

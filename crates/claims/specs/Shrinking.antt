@@ -1,0 +1,99 @@
+-- The passes of simplify over the tables: settle, reach, compact.
+use mathlib.Core.Path.{_≡_}
+use mathlib.Core.Bool.{Bool, true, false, cond}
+use mathlib.Core.List.{List, [], _∷_, _++_, map}
+use Prim.Native.Nat.{ℕ, _+_, _-_, _^_, _≤_, _<_}
+use lib.Dec.{eqb}
+use lib.ListN.{length, getD, set, take, drop}
+use Rattle.std.specs.Iters.{folded}
+use Rattle.std.specs.shelf.Lists.{All}
+use Rattle.formulas.specs.declared.node.Node.{Node}
+use Rattle.formulas.specs.declared.node.Node.the-variants.{State, Dist}
+use Rattle.formulas.specs.declared.node.StateNode.{StateNode}
+use Rattle.formulas.specs.declared.node.StateNode as sn
+use Rattle.formulas.specs.declared.node.DistNode.{DistNode}
+use Rattle.formulas.specs.declared.node.DistNode as dn
+use Rattle.formulas.specs.declared.node.Run.{Run}
+use Rattle.formulas.specs.declared.node.Term.{Term}
+use Rattle.formulas.specs.Lines.{Sort, state, dist, Line, constant, both, non, step, sum, entries, line, lines}
+use Rattle.formulas.specs.Layout.{terms-in, node-table, term-table, alternative-table}
+use Rattle.formulas.specs.Right.{Formed}
+use Rattle.claims.specs.declared.settle.Seen.{Seen}
+use Rattle.claims.specs.declared.settle.Seen.the-variants as see
+use Rattle.claims.specs.WellFormed.{line-at}
+use Rattle.claims.specs.Rows.{no-node}
+use Rattle.claims.specs.Simplify.{Tone, yes, no, neither, tone, tone-of, Outcome, non-line, step-line, sum-line, coefficients, alternatives-left, has-yes, terms-left, yes-part, outcomes, parts}
+
+-- the list with these from the place p on
+abbrev pub put : {X : Type 0} → ℕ → List X → List X → List X
+put p [] old = old
+put p (x ∷ new) old = take p old ++ ((x ∷ new) ++ drop (p + length (x ∷ new)) old)
+
+-- the list with these at the front
+abbrev pub atop : {X : Type 0} → List X → List X → List X
+atop new old = new ++ drop (length new) old
+
+abbrev pub shade : Seen → Tone
+shade see.Yes = yes
+shade see.No = no
+shade see.Open = neither
+
+-- what became of the lines before, as far as it takes to settle the next: the map has their numbers, the nodes have their tones
+abbrev pub glance : List Node → List ℕ → ℕ → Outcome
+glance ns to j = record { to = getD to j 0; line = line [] [] (getD ns (getD to j 0) no-node) }
+
+-- what stands at the place of an and; yes where its users take a part
+abbrev pub both-left : Sort → Tone → Tone → ℕ → ℕ → Line
+both-left σ yes yes i j = constant σ true
+both-left σ yes no i j = constant σ false
+both-left σ yes neither i j = constant σ true
+both-left σ no p i j = constant σ false
+both-left σ neither yes i j = constant σ true
+both-left σ neither no i j = constant σ false
+both-left σ neither neither i j = both σ i j
+
+-- what stands at the place of a line after the first pass
+abbrev pub leaves : (ℕ → Outcome) → Line → Line
+leaves E (constant σ b) = constant σ b
+leaves E (both σ i j) = both-left σ (tone-of E i) (tone-of E j) (E i .to) (E j .to)
+leaves E (non σ i) = non-line σ (tone-of E i) (E i .to)
+leaves E (step a ms hs) = cond (has-yes E hs) (constant state true) (step-line a (alternatives-left E ms) (alternatives-left E hs))
+leaves E (sum t ks) = sum-line (t - yes-part E ks) (terms-left E ks)
+
+-- the map leads from j to a node before i
+abbrev pub Led : ℕ → List Node → List ℕ → ℕ → Type 0
+Led i ns to j = (j < length to) × (getD to j 0 < length ns) × (getD to j 0 < i)
+
+-- what it takes to settle node i, whose entries that are left go to the place p
+pub record Fit-step (i : ℕ) (ns : List Node) (to alts : List ℕ) (p : ℕ) (mv h : Run) : Type 0 where
+  pub past : p ≤ mv .first
+  pub next : mv .first + mv .count ≤ h .first
+  pub within : h .first + h .count ≤ length alts
+  pub small : length alts < 2 ^ 32
+  pub moves : All (Led i ns to) (entries alts mv)
+  pub heres : All (Led i ns to) (entries alts h)
+
+pub record Fit-sum (i : ℕ) (ns : List Node) (to : List ℕ) (ts : List Term) (p : ℕ) (r : Run) : Type 0 where
+  pub past : p ≤ r .first
+  pub within : r .first + r .count ≤ length ts
+  pub small : length ts < 2 ^ 32
+  pub led : All (λ k. Led i ns to (k .node)) (entries ts r)
+  pub light : coefficients (entries ts r) < 2 ^ 64
+
+abbrev pub Fit-state : ℕ → List Node → List ℕ → List ℕ → ℕ → StateNode → Type 0
+Fit-state i ns to alts p sn.the-variants.Yes = Unit {0}
+Fit-state i ns to alts p sn.the-variants.No = Unit {0}
+Fit-state i ns to alts p (sn.the-variants.And a b) = Led i ns to a × Led i ns to b
+Fit-state i ns to alts p (sn.the-variants.Not a) = Led i ns to a
+Fit-state i ns to alts p (sn.the-variants.Step act mv h) = Fit-step i ns to alts p mv h
+
+abbrev pub Fit-dist : ℕ → List Node → List ℕ → List Term → ℕ → DistNode → Type 0
+Fit-dist i ns to ts p dn.the-variants.Yes = Unit {0}
+Fit-dist i ns to ts p dn.the-variants.No = Unit {0}
+Fit-dist i ns to ts p (dn.the-variants.And a b) = Led i ns to a × Led i ns to b
+Fit-dist i ns to ts p (dn.the-variants.Not a) = Led i ns to a
+Fit-dist i ns to ts p (dn.the-variants.Sum t r) = Fit-sum i ns to ts p r
+
+abbrev pub Fit : ℕ → List Node → List ℕ → List Term → List ℕ → ℕ → ℕ → Node → Type 0
+Fit i ns to ts alts t a (State x) = Fit-state i ns to alts a x
+Fit i ns to ts alts t a (Dist x) = Fit-dist i ns to ts t x
