@@ -12,3 +12,5 @@ pub mod Lists
 pub mod Outcomes
 pub mod Prune
 pub mod Puts
+pub mod Keeping
+pub mod Turns

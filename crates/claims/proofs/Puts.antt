@@ -7,9 +7,9 @@ use native.Mathlib.Omega.{arith}
 use native.Mathlib.Nat.{add-zero, add-assoc}
 use native.Mathlib.Numerals.{add-one}
 use lib.ListN.{length, getD, set, take, drop}
-use Rattle.std.specs.shelf.Lists.{kept-by}
-use Rattle.std.proofs.shelf.Lists.{append-assoc, append-nil, map-append, length-append, length-map, length-push, length-take, length-take-le, length-drop, take-append-drop, take-at, take-all, drop-at, drop-drop, drop-append-le, drop-more, take-more, set-at, getD-drop}
-use Rattle.std.proofs.shelf.Elements.{kept-by-append}
+use Rattle.std.specs.shelf.Lists.{All, kept-by}
+use Rattle.std.proofs.shelf.Lists.{append-assoc, append-nil, map-append, length-append, length-map, length-push, length-take, length-take-le, length-drop, take-append-drop, take-at, take-all, drop-at, drop-drop, drop-append-le, drop-more, take-more, set-at, getD-drop, getD-take}
+use Rattle.std.proofs.shelf.Elements.{kept-by-append, all-getD}
 use Rattle.std.proofs.shelf.Sums.{length-kept-by, countBy-le-length}
 use Rattle.formulas.specs.Lines.{part}
 use Rattle.claims.specs.Shrinking.{put, atop}
@@ -117,6 +117,9 @@ module _ {X : Type 0} where
   part-more xs p n d h =
       take-more (drop p xs) n d (omega (arith, length-drop p xs)) ∙ ap (λ x. take n (drop p xs) ++ (x ∷ [])) (getD-drop p xs n d)
 
+  pub part-at : (xs : List X) (p n k : ℕ) (d : X) → k < n → getD (part xs p n) k d ≡ getD xs (p + k) d
+  part-at xs p n k d h = getD-take n (drop p xs) k d h ∙ getD-drop p xs k d
+
   pub length-part : (xs : List X) (p n : ℕ) → p + n ≤ length xs → length (part xs p n) ≡ n
   length-part xs p n h = length-take-le n (drop p xs) (omega (arith, length-drop p xs))
 
@@ -126,7 +129,7 @@ pub record Moving {X : Type 0} (f : X → Bool) (g : X → X) (xs ys : List X) (
   pub end : w ≡ s + length (map g (kept-by f (part xs p n)))
 
 module _ {X : Type 0} (f : X → Bool) (g : X → X) (xs : List X) (p s : ℕ) where
-  moved-few : (n : ℕ) → p + n ≤ length xs → length (map g (kept-by f (part xs p n))) ≤ n
+  pub moved-few : (n : ℕ) → p + n ≤ length xs → length (map g (kept-by f (part xs p n))) ≤ n
   moved-few n h =
       omega (arith, length-map (kept-by f (part xs p n)) g, length-kept-by f (part xs p n), countBy-le-length f (part xs p n), length-part xs p n h)
 
@@ -142,6 +145,10 @@ module _ {X : Type 0} (f : X → Bool) (g : X → X) (xs : List X) (p s : ℕ) w
 
     pub moving-read : (d : X) → getD ys (p + n) d ≡ getD xs (p + n) d
     moving-read d = ap (λ l. getD l (p + n) d) (m .is) ∙ getD-put s (p + n) (map g (kept-by f (part xs p n))) xs d (omega arith) (omega (arith, few))
+
+    pub moving-at : (P : X → Type 0) (d : X) (count : ℕ) → p + count ≤ length xs → n < count → All P (part xs p count) → P (getD ys (p + n) d)
+    moving-at P d count l b a =
+        subst P (part-at xs p count n d b ∙ sym (moving-read d)) (all-getD P (part xs p count) n d (omega (arith, length-part xs p count l)) a)
 
     grows : (d : X) (b : Bool) → f (getD xs (p + n) d) ≡ b
         → map g (kept-by f (part xs p (n + 1))) ≡ map g (kept-by f (part xs p n)) ++ map g (cond b (getD xs (p + n) d ∷ []) [])

@@ -16,13 +16,13 @@ use Rattle.formulas.specs.declared.node.DistNode as dn
 use Rattle.formulas.specs.declared.node.Run.{Run}
 use Rattle.formulas.specs.declared.node.Term.{Term}
 use Rattle.formulas.specs.Lines.{Sort, state, dist, Line, constant, both, non, step, sum, entries, line, lines}
-use Rattle.formulas.specs.Layout.{terms-in, node-table, term-table, alternative-table}
+use Rattle.formulas.specs.Layout.{terms-in, alternatives-in, node, node-table, term-table, alternative-table}
 use Rattle.formulas.specs.Right.{Formed}
 use Rattle.claims.specs.declared.settle.Seen.{Seen}
 use Rattle.claims.specs.declared.settle.Seen.the-variants as see
 use Rattle.claims.specs.WellFormed.{line-at}
 use Rattle.claims.specs.Rows.{no-node}
-use Rattle.claims.specs.Simplify.{Tone, yes, no, neither, tone, tone-of, Outcome, non-line, step-line, sum-line, coefficients, alternatives-left, has-yes, terms-left, yes-part, outcomes, parts}
+use Rattle.claims.specs.Simplify.{Tone, yes, no, neither, tone, tone-of, Outcome, became, non-line, step-line, sum-line, coefficients, alternatives-left, has-yes, terms-left, yes-part, outcomes, parts}
 
 -- the list with these from the place p on
 abbrev pub put : {X : Type 0} → ℕ → List X → List X → List X
@@ -97,3 +97,18 @@ Fit-dist i ns to ts p (dn.the-variants.Sum t r) = Fit-sum i ns to ts p r
 abbrev pub Fit : ℕ → List Node → List ℕ → List Term → List ℕ → ℕ → ℕ → Node → Type 0
 Fit i ns to ts alts t a (State x) = Fit-state i ns to alts a x
 Fit i ns to ts alts t a (Dist x) = Fit-dist i ns to ts t x
+
+-- what becomes of line i, whose entries that are left go to the places t and a; n is its node, and t′ and a′ are where they end
+pub record Turned (i : ℕ) (E : ℕ → Outcome) (l : Line) (t a : ℕ) (ts : List Term) (alts : List ℕ) (to : ℕ) (n : Node) (t′ a′ : ℕ) (ts′ : List Term) (alts′ : List ℕ) : Type 0 where
+  pub to : to ≡ became i E l .to
+  pub node : n ≡ node t a (leaves E l)
+  pub term : t′ ≡ t + length (terms-in (leaves E l))
+  pub alternative : a′ ≡ a + length (alternatives-in (leaves E l))
+  pub terms : ts′ ≡ put t (terms-in (leaves E l)) ts
+  pub alternatives : alts′ ≡ put a (alternatives-in (leaves E l)) alts
+
+-- the same in the tables, with its number in the map
+pub record Settled-at (i t a : ℕ) (ns : List Node) (ts : List Term) (alts to : List ℕ) (t′ a′ : ℕ) (ns′ : List Node) (ts′ : List Term) (alts′ to′ : List ℕ) : Type 0 where
+  pub turned : Turned i (glance ns to) (line ts alts (getD ns i no-node)) t a ts alts (getD to′ i 0) (getD ns′ i no-node) t′ a′ ts′ alts′
+  pub nodes : ns′ ≡ set ns i (getD ns′ i no-node)
+  pub to : to′ ≡ set to i (getD to′ i 0)

@@ -1,0 +1,62 @@
+-- What is left of a step, as its node and its alternatives.
+use mathlib.Core.Path.{_≡_, refl, sym, ap, ap₂, subst, _∙_}
+use mathlib.Core.Bool.{Bool, true, false, cond, not}
+use mathlib.Core.List.{List, [], _∷_, _++_}
+use Prim.Native.Nat.{ℕ, _+_, _-_, _≤_, _<_}
+use native.Mathlib.Omega.{arith}
+use lib.ListN.{length}
+use Rattle.std.proofs.shelf.Lists.{length-append}
+use Rattle.formulas.specs.declared.node.Node.{Node}
+use Rattle.formulas.specs.declared.node.Node.the-variants.{State}
+use Rattle.formulas.specs.declared.node.StateNode as sn
+use Rattle.formulas.specs.Lines.{state, Line, constant, step}
+use Rattle.formulas.specs.Layout.{node, run, alternatives-in}
+use Rattle.formulas.specs.declared.node.Run.{Run}
+use Rattle.formulas.specs.Lines.{entries}
+use Rattle.claims.specs.Simplify.{Outcome, tone-of, is-no, alternatives-left, step-line}
+use Rattle.claims.specs.Shrinking.{put}
+use Rattle.claims.proofs.Puts.{part-put, put-put, moved-few}
+
+-- a step of which something is left
+pub record Stepped (a s m e : ℕ) (ms hs : List ℕ) (l : Line) : Type 0 where
+  pub is : State (sn.the-variants.Step a (run s (m - s)) (run m (e - m))) ≡ node 0 s l
+  pub end : e ≡ s + length (alternatives-in l)
+  pub all : ms ++ hs ≡ alternatives-in l
+
+module _ (a s m e : ℕ) (ms hs : List ℕ) (p : m ≡ s + length ms) (q : e ≡ m + length hs) where
+  plain : Stepped a s m e ms hs (step a ms hs)
+  plain =
+      let x : m - s ≡ length ms = omega arith in
+      let y : e - m ≡ length hs = omega arith in
+      record
+      { is = λ i. State (sn.the-variants.Step a (run s (x i)) (run (p i) (y i)))
+      ; end = omega (arith, length-append ms hs)
+      ; all = refl
+      }
+
+pub stepped : (a s m e : ℕ) (ms hs : List ℕ) (b : Bool) → m ≡ s + length ms → e ≡ m + length hs → (e ≡ s → ⊥) → b ≡ false
+    → Stepped a s m e ms hs (cond b (constant state true) (step-line a ms hs))
+stepped a s m e ms hs true p q n f = absurd (let z : _≡_ {A = ℕ} 0 1 = ap (λ b. cond b 0 1) f in omega arith)
+stepped a s m e [] [] false p q n f = absurd (n (omega arith))
+stepped a s m e [] (h ∷ hs) false p q n f = plain a s m e [] (h ∷ hs) p q
+stepped a s m e (x ∷ ms) hs false p q n f = plain a s m e (x ∷ ms) hs p q
+
+-- the alternatives for moves are moved first, then those for here
+module _ (E : ℕ → Outcome) (xs ys : List ℕ) (mv h : Run) (s : ℕ) (past : s ≤ mv .first) (next : mv .first + mv .count ≤ h .first) (within : h .first + h .count ≤ length xs)
+  (moved : ys ≡ put s (alternatives-left E (entries xs mv)) xs) where
+
+  low : s ≤ length xs
+  low = omega arith
+
+  pub gap : s + length (alternatives-left E (entries xs mv)) ≤ h .first
+  gap = omega (arith, moved-few (λ d. not (is-no (tone-of E d))) (λ d. E d .to) xs (mv .first) s (mv .count) (omega arith))
+
+  pub heres-same : entries ys h ≡ entries xs h
+  heres-same = ap (λ zs. entries zs h) moved ∙ part-put s (h .first) (h .count) (alternatives-left E (entries xs mv)) xs low gap
+
+  pub both-moved : (zs : List ℕ) (m : ℕ) → m ≡ s + length (alternatives-left E (entries xs mv)) → zs ≡ put m (alternatives-left E (entries ys h)) ys
+      → zs ≡ put s (alternatives-left E (entries xs mv) ++ alternatives-left E (entries xs h)) xs
+  both-moved zs m p e =
+      e
+      ∙ (ap₂ (λ (new old : List ℕ). put m new old) (ap (alternatives-left E) heres-same) moved
+      ∙ put-put s m (alternatives-left E (entries xs mv)) (alternatives-left E (entries xs h)) xs p low)
