@@ -14,3 +14,6 @@ pub mod Prune
 pub mod Puts
 pub mod Keeping
 pub mod Turns
+pub mod Laid
+pub mod Leaving
+pub mod Settlings

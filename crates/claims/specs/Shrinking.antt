@@ -22,7 +22,7 @@ use Rattle.claims.specs.declared.settle.Seen.{Seen}
 use Rattle.claims.specs.declared.settle.Seen.the-variants as see
 use Rattle.claims.specs.WellFormed.{line-at}
 use Rattle.claims.specs.Rows.{no-node}
-use Rattle.claims.specs.Simplify.{Tone, yes, no, neither, tone, tone-of, Outcome, became, non-line, step-line, sum-line, coefficients, alternatives-left, has-yes, terms-left, yes-part, outcomes, parts}
+use Rattle.claims.specs.Simplify.{Tone, yes, no, neither, tone, tone-of, Outcome, became, non-line, step-line, sum-line, coefficients, alternatives-left, has-yes, terms-left, yes-part, blank, outcomes, parts, member}
 
 -- the list with these from the place p on
 abbrev pub put : {X : Type 0} → ℕ → List X → List X → List X
@@ -100,8 +100,8 @@ Fit i ns to ts alts t a (Dist x) = Fit-dist i ns to ts t x
 
 -- what becomes of line i, whose entries that are left go to the places t and a; n is its node, and t′ and a′ are where they end
 pub record Turned (i : ℕ) (E : ℕ → Outcome) (l : Line) (t a : ℕ) (ts : List Term) (alts : List ℕ) (to : ℕ) (n : Node) (t′ a′ : ℕ) (ts′ : List Term) (alts′ : List ℕ) : Type 0 where
-  pub to : to ≡ became i E l .to
-  pub node : n ≡ node t a (leaves E l)
+  pub number : to ≡ became i E l .to
+  pub is : n ≡ node t a (leaves E l)
   pub term : t′ ≡ t + length (terms-in (leaves E l))
   pub alternative : a′ ≡ a + length (alternatives-in (leaves E l))
   pub terms : ts′ ≡ put t (terms-in (leaves E l)) ts
@@ -111,4 +111,64 @@ pub record Turned (i : ℕ) (E : ℕ → Outcome) (l : Line) (t a : ℕ) (ts : L
 pub record Settled-at (i t a : ℕ) (ns : List Node) (ts : List Term) (alts to : List ℕ) (t′ a′ : ℕ) (ns′ : List Node) (ts′ : List Term) (alts′ to′ : List ℕ) : Type 0 where
   pub turned : Turned i (glance ns to) (line ts alts (getD ns i no-node)) t a ts alts (getD to′ i 0) (getD ns′ i no-node) t′ a′ ts′ alts′
   pub nodes : ns′ ≡ set ns i (getD ns′ i no-node)
-  pub to : to′ ≡ set to i (getD to′ i 0)
+  pub numbers : to′ ≡ set to i (getD to′ i 0)
+
+-- the lines after the first pass
+abbrev pub left-lines : List Line → List Line
+left-lines ls = map (leaves (λ j. getD (outcomes ls) j blank)) ls
+
+-- the tables begin with those of their lines, and the parts of each line come before it
+pub record Packed (ns : List Node) (ts : List Term) (alts : List ℕ) : Type 0 where
+  pub nodes : node-table 0 0 (lines ns ts alts) ≡ ns
+  pub terms : atop (term-table (lines ns ts alts)) ts ≡ ts
+  pub alternatives : atop (alternative-table (lines ns ts alts)) alts ≡ alts
+  pub formed : Formed (lines ns ts alts)
+  pub few-terms : length ts < 2 ^ 32
+  pub few-alternatives : length alts < 2 ^ 32
+
+-- no sum is too heavy for its coefficients to be added up
+abbrev pub Light : List Line → Type 0
+Light ls = (i : ℕ) → i < length ls → coefficients (terms-in (line-at ls i)) < 2 ^ 64
+
+-- the tables of lines ls after i of them were settled, with t terms and a alternatives left: the rest is as it was
+pub record Settling (ls : List Line) (ns : List Node) (ts : List Term) (alts to : List ℕ) (i t a : ℕ) (ns′ : List Node) (ts′ : List Term) (alts′ to′ : List ℕ) : Type 0 where
+  pub nodes : ns′ ≡ atop (node-table 0 0 (take i (left-lines ls))) ns
+  pub terms : ts′ ≡ atop (term-table (take i (left-lines ls))) ts
+  pub alternatives : alts′ ≡ atop (alternative-table (take i (left-lines ls))) alts
+  pub numbers : to′ ≡ atop (map (λ o. o .to) (take i (outcomes ls))) to
+  pub term : t ≡ length (term-table (take i (left-lines ls)))
+  pub alternative : a ≡ length (alternative-table (take i (left-lines ls)))
+
+-- the tables after the first pass
+pub record Settled (ls : List Line) (ts : List Term) (alts to : List ℕ) (ns′ : List Node) (ts′ : List Term) (alts′ to′ : List ℕ) : Type 0 where
+  pub nodes : ns′ ≡ node-table 0 0 (left-lines ls)
+  pub terms : ts′ ≡ atop (term-table (left-lines ls)) ts
+  pub alternatives : alts′ ≡ atop (alternative-table (left-lines ls)) alts
+  pub numbers : to′ ≡ atop (map (λ o. o .to) (outcomes ls)) to
+
+-- these ticked too
+abbrev pub ticked : List ℕ → List ℕ → List ℕ
+ticked to ks = folded (λ r k. set r k 1) to ks
+
+-- runs end within their tables
+abbrev pub Runs-state : ℕ → StateNode → Type 0
+Runs-state size sn.the-variants.Yes = Unit {0}
+Runs-state size sn.the-variants.No = Unit {0}
+Runs-state size (sn.the-variants.And a b) = Unit {0}
+Runs-state size (sn.the-variants.Not a) = Unit {0}
+Runs-state size (sn.the-variants.Step act mv h) = (mv .first + mv .count ≤ size) × (h .first + h .count ≤ size)
+
+abbrev pub Runs-dist : ℕ → DistNode → Type 0
+Runs-dist size dn.the-variants.Yes = Unit {0}
+Runs-dist size dn.the-variants.No = Unit {0}
+Runs-dist size (dn.the-variants.And a b) = Unit {0}
+Runs-dist size (dn.the-variants.Not a) = Unit {0}
+Runs-dist size (dn.the-variants.Sum t r) = r .first + r .count ≤ size
+
+abbrev pub Runs : List Term → List ℕ → Node → Type 0
+Runs ts alts (State x) = Runs-state (length alts) x
+Runs ts alts (Dist x) = Runs-dist (length ts) x
+
+-- a tick for each number that is among these
+abbrev pub Ticks : List ℕ → List ℕ → Type 0
+Ticks to r = (j : ℕ) → j < length to → getD to j 0 ≡ cond (member j r) 1 0

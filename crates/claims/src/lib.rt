@@ -3,6 +3,7 @@ pub mod claim;
 pub mod fault;
 pub mod judge;
 pub mod opening;
+mod reach;
 mod row;
 mod settle;
 mod spot;

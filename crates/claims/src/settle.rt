@@ -5,11 +5,11 @@ ghost use mathlib.Core.List.{[]};
 ghost use Prim.Native.Nat.{ℕ, _+_, _-_, _^_, _≤_, _<_};
 ghost use lib.ListN.{length, getD, set};
 ghost use Rattle.std.specs.shelf.Lists.{All};
-ghost use Rattle.formulas.specs.Lines.{step, sum, entries, state-line, dist-line, line};
+ghost use Rattle.formulas.specs.Lines.{step, sum, entries, state-line, dist-line, line, lines};
 ghost use Rattle.formulas.specs.Layout.{node as node-of, terms-in, alternatives-in};
 ghost use Rattle.claims.specs.Rows.{no-node};
 ghost use Rattle.claims.specs.Simplify.{tone, tone-of, is-yes, is-no, is-neither, became, coefficients, alternatives-left, has-yes, terms-left, yes-part};
-ghost use Rattle.claims.specs.Shrinking.{put, shade, glance, leaves, Led, Fit-step, Fit-sum, Fit-state, Fit-dist, Fit, Turned, Settled-at};
+ghost use Rattle.claims.specs.Shrinking.{put, shade, glance, leaves, Led, Fit-step, Fit-sum, Fit-state, Fit-dist, Fit, Turned, Settled-at, Packed, Light, Settled};
 use formulas::node::DistNode;
 use formulas::node::Node;
 use formulas::node::Run;
@@ -340,4 +340,18 @@ fn settle_at(i: usize, ends: Ends, nodes: &mut [Node], terms: &mut [Term], alter
     map[i] = turn.to;
     nodes[i] = turn.node;
     Ends { term: turn.term, alternative: turn.alternative }
+}
+
+// Settles all nodes, each after its parts.
+pub(crate) fn settle(nodes: &mut [Node], terms: &mut [Term], alternatives: &mut [u32], map: &mut [u32])
+    requires packed { ⌜ Packed (now nodes) (now terms) (now alternatives) ⌝ }
+    requires light { ⌜ Light (lines (now nodes) (now terms) (now alternatives)) ⌝ }
+    requires room { ⌜ length (now nodes) ≤ length (now map) ⌝ }
+    requires few { ⌜ length (now nodes) < 2 ^ 32 ⌝ }
+    ensures { λ _. ⌜ Settled (lines (now (nodes .entry)) (now (terms .entry)) (now (alternatives .entry))) (now (terms .entry)) (now (alternatives .entry)) (now (map .entry)) (now (nodes .exit)) (now (terms .exit)) (now (alternatives .exit)) (now (map .exit)) ⌝ }
+{
+    let mut ends = Ends { term: 0, alternative: 0 };
+    for i in 0..nodes.len() {
+        ends = settle_at(i, ends, nodes, terms, alternatives, map);
+    }
 }
