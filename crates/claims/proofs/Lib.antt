@@ -17,3 +17,4 @@ pub mod Turns
 pub mod Laid
 pub mod Leaving
 pub mod Settlings
+pub mod Ticking

@@ -123,6 +123,10 @@ module _ {X : Type 0} where
   pub length-part : (xs : List X) (p n : ℕ) → p + n ≤ length xs → length (part xs p n) ≡ n
   length-part xs p n h = length-take-le n (drop p xs) (omega (arith, length-drop p xs))
 
+pub kept-all : {X : Type 0} (xs : List X) → kept-by (λ _. true) xs ≡ xs
+kept-all [] = refl
+kept-all (x ∷ xs) = ap (λ r. x ∷ r) (kept-all xs)
+
 -- entries from the place p on are moved down to the place s, those that pass, changed by g: n of them are looked at, and w is where they end
 pub record Moving {X : Type 0} (f : X → Bool) (g : X → X) (xs ys : List X) (p s n w : ℕ) : Type 0 where
   pub is : ys ≡ put s (map g (kept-by f (part xs p n))) xs

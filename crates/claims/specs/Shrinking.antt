@@ -16,13 +16,14 @@ use Rattle.formulas.specs.declared.node.DistNode as dn
 use Rattle.formulas.specs.declared.node.Run.{Run}
 use Rattle.formulas.specs.declared.node.Term.{Term}
 use Rattle.formulas.specs.Lines.{Sort, state, dist, Line, constant, both, non, step, sum, entries, line, lines}
-use Rattle.formulas.specs.Layout.{terms-in, alternatives-in, node, node-table, term-table, alternative-table}
+use Rattle.formulas.specs.declared.node.Fills.{Fills}
+use Rattle.formulas.specs.Layout.{terms-in, alternatives-in, node, node-table, term-table, alternative-table, fills}
 use Rattle.formulas.specs.Right.{Formed}
 use Rattle.claims.specs.declared.settle.Seen.{Seen}
 use Rattle.claims.specs.declared.settle.Seen.the-variants as see
 use Rattle.claims.specs.WellFormed.{line-at}
 use Rattle.claims.specs.Rows.{no-node}
-use Rattle.claims.specs.Simplify.{Tone, yes, no, neither, tone, tone-of, Outcome, became, non-line, step-line, sum-line, coefficients, alternatives-left, has-yes, terms-left, yes-part, blank, outcomes, parts, member}
+use Rattle.claims.specs.Simplify.{Tone, yes, no, neither, tone, tone-of, Outcome, became, non-line, step-line, sum-line, coefficients, alternatives-left, has-yes, terms-left, yes-part, blank, outcomes, parts, member, retarget, renumber, rank, compact}
 
 -- the list with these from the place p on
 abbrev pub put : {X : Type 0} → ℕ → List X → List X → List X
@@ -172,3 +173,47 @@ Runs ts alts (Dist x) = Runs-dist (length ts) x
 -- a tick for each number that is among these
 abbrev pub Ticks : List ℕ → List ℕ → Type 0
 Ticks to r = (j : ℕ) → j < length to → getD to j 0 ≡ cond (member j r) 1 0
+
+abbrev pub new-number : List ℕ → ℕ → ℕ
+new-number to j = getD to j 0
+
+-- what it takes to move a node: its parts have numbers below n, and its entries go down to the place p
+pub record Near-step (n : ℕ) (alts : List ℕ) (p : ℕ) (mv h : Run) : Type 0 where
+  pub past : p ≤ mv .first
+  pub next : mv .first + mv .count ≤ h .first
+  pub within : h .first + h .count ≤ length alts
+  pub small : length alts < 2 ^ 32
+  pub moves : All (λ d. d < n) (entries alts mv)
+  pub heres : All (λ d. d < n) (entries alts h)
+
+pub record Near-sum (n : ℕ) (ts : List Term) (p : ℕ) (r : Run) : Type 0 where
+  pub past : p ≤ r .first
+  pub within : r .first + r .count ≤ length ts
+  pub small : length ts < 2 ^ 32
+  pub below : All (λ k. k .node < n) (entries ts r)
+
+abbrev pub Near-state : ℕ → List ℕ → ℕ → StateNode → Type 0
+Near-state n alts p sn.the-variants.Yes = Unit {0}
+Near-state n alts p sn.the-variants.No = Unit {0}
+Near-state n alts p (sn.the-variants.And a b) = (a < n) × (b < n)
+Near-state n alts p (sn.the-variants.Not a) = a < n
+Near-state n alts p (sn.the-variants.Step act mv h) = Near-step n alts p mv h
+
+abbrev pub Near-dist : ℕ → List Term → ℕ → DistNode → Type 0
+Near-dist n ts p dn.the-variants.Yes = Unit {0}
+Near-dist n ts p dn.the-variants.No = Unit {0}
+Near-dist n ts p (dn.the-variants.And a b) = (a < n) × (b < n)
+Near-dist n ts p (dn.the-variants.Not a) = a < n
+Near-dist n ts p (dn.the-variants.Sum t r) = Near-sum n ts p r
+
+abbrev pub Near : ℕ → List Term → List ℕ → ℕ → ℕ → Node → Type 0
+Near n ts alts t a (State x) = Near-state n alts a x
+Near n ts alts t a (Dist x) = Near-dist n ts t x
+
+-- a line that is moved to the places t and a, its parts by their new numbers; n is its node, and t′ and a′ are where its entries end
+pub record Moved-as (f : ℕ → ℕ) (l : Line) (t a : ℕ) (ts : List Term) (alts : List ℕ) (n : Node) (t′ a′ : ℕ) (ts′ : List Term) (alts′ : List ℕ) : Type 0 where
+  pub is : n ≡ node t a (renumber f l)
+  pub term : t′ ≡ t + length (terms-in (renumber f l))
+  pub alternative : a′ ≡ a + length (alternatives-in (renumber f l))
+  pub terms : ts′ ≡ put t (terms-in (renumber f l)) ts
+  pub alternatives : alts′ ≡ put a (alternatives-in (renumber f l)) alts

@@ -1,5 +1,6 @@
 // Claims: a formula with the mass removed from its system, opened from a draft and judged on systems.
 pub mod claim;
+mod compact;
 pub mod fault;
 pub mod judge;
 pub mod opening;

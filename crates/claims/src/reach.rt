@@ -6,12 +6,13 @@ ghost use Prim.Native.Nat.{ℕ, _+_, _≤_, _<_};
 ghost use lib.Dec.{eqb};
 ghost use lib.ListN.{length, getD};
 ghost use Rattle.std.specs.shelf.Lists.{All};
-ghost use Rattle.formulas.specs.Lines.{state-line, dist-line, line, lines};
+ghost use Rattle.formulas.specs.Lines.{entries, state-line, dist-line, line, lines};
 ghost use Rattle.claims.specs.Rows.{no-node};
 ghost use Rattle.claims.specs.Simplify.{parts, reached};
 ghost use Rattle.claims.specs.Shrinking.{ticked, Runs-state, Runs-dist, Runs, Ticks};
 use formulas::node::DistNode;
 use formulas::node::Node;
+use formulas::node::Run;
 use formulas::node::StateNode;
 use formulas::node::Term;
 
@@ -36,6 +37,24 @@ fn tick_terms(wanted: &[Term], ticks: &mut [u32])
     }
 }
 
+fn tick_run(run: Run, alternatives: &[u32], ticks: &mut [u32])
+    requires within { ⌜ run .first + run .count ≤ length (now alternatives) ⌝ }
+    requires inside { ⌜ All (λ d. d < length (now ticks)) (entries (now alternatives) run) ⌝ }
+    ensures { λ _. ⌜ now (ticks .exit) ≡ ticked (now (ticks .entry)) (entries (now (alternatives .entry)) run) ⌝ }
+{
+    let first = run.first as usize;
+    tick_all(&alternatives[first..first + run.count as usize], ticks);
+}
+
+fn tick_sum(run: Run, terms: &[Term], ticks: &mut [u32])
+    requires within { ⌜ run .first + run .count ≤ length (now terms) ⌝ }
+    requires inside { ⌜ All (λ d. d < length (now ticks)) (map (λ k. k .node) (entries (now terms) run)) ⌝ }
+    ensures { λ _. ⌜ now (ticks .exit) ≡ ticked (now (ticks .entry)) (map (λ k. k .node) (entries (now (terms .entry)) run)) ⌝ }
+{
+    let first = run.first as usize;
+    tick_terms(&terms[first..first + run.count as usize], ticks);
+}
+
 fn tick_state(node: StateNode, alternatives: &[u32], ticks: &mut [u32])
     requires inside { ⌜ All (λ d. d < length (now ticks)) (parts (state-line (now alternatives) node)) ⌝ }
     requires runs { ⌜ Runs-state (length (now alternatives)) node ⌝ }
@@ -52,10 +71,8 @@ fn tick_state(node: StateNode, alternatives: &[u32], ticks: &mut [u32])
             ticks[a as usize] = TICK;
         }
         StateNode::Step { action: _, moves, heres } => {
-            let move_first = moves.first as usize;
-            let here_first = heres.first as usize;
-            tick_all(&alternatives[move_first..move_first + moves.count as usize], ticks);
-            tick_all(&alternatives[here_first..here_first + heres.count as usize], ticks);
+            tick_run(moves, alternatives, ticks);
+            tick_run(heres, alternatives, ticks);
         }
     }
 }
@@ -76,8 +93,7 @@ fn tick_dist(node: DistNode, terms: &[Term], ticks: &mut [u32])
             ticks[a as usize] = TICK;
         }
         DistNode::Sum { threshold: _, terms: run } => {
-            let first = run.first as usize;
-            tick_terms(&terms[first..first + run.count as usize], ticks);
+            tick_sum(run, terms, ticks);
         }
     }
 }

@@ -6,7 +6,7 @@ use Rattle.std.specs.shelf.Lists.{All}
 use Rattle.formulas.specs.Lines.{entries}
 use Rattle.claims.specs.Simplify.{has-yes, alternatives-left}
 use Rattle.claims.specs.Shrinking.{glance, Led, put}
-use Rattle.claims.proofs.Turns.{stepped, gap, heres-same, both-moved}
+use Rattle.claims.proofs.Turns.{left-short, stepped, gap, heres-same, both-moved}
 use Rattle.claims.proofs.settle.settle_step.Needs as need
 
 pub keep-alternatives-end-requires : need.keep-alternatives-end-requires
@@ -14,8 +14,9 @@ keep-alternatives-end-requires c κs =
     let E = glance (c .args .nodes .now) (c .args .map .now) in
     let xs = c .args .alternatives .now in
     let moved = c .keep-alternatives-middle .ensures .moved in
-    let free = gap E xs (c .keep-alternatives-middle .last .alternatives) (c .args .moves) (c .args .heres) (c .args .start) (c .pre .past) (c .pre .next) (c .pre .within) moved in
-    let same = heres-same E xs (c .keep-alternatives-middle .last .alternatives) (c .args .moves) (c .args .heres) (c .args .start) (c .pre .past) (c .pre .next) (c .pre .within) moved in
+    let short = left-short E xs (c .args .moves) (omega (arith, c .pre .next, c .pre .within)) in
+    let free = gap (alternatives-left E) xs (c .keep-alternatives-middle .last .alternatives) (c .args .moves) (c .args .heres) (c .args .start) short (c .pre .past) (c .pre .next) (c .pre .within) moved in
+    let same = heres-same (alternatives-left E) xs (c .keep-alternatives-middle .last .alternatives) (c .args .moves) (c .args .heres) (c .args .start) short (c .pre .past) (c .pre .next) (c .pre .within) moved in
     record
     { past = omega (arith, free, c .keep-alternatives-middle .ensures .end)
     ; within = omega (arith, c .pre .within, c .keep-alternatives-middle .kept .alternatives)
@@ -31,8 +32,9 @@ returns c =
     let ms = alternatives-left E (entries xs (c .args .moves)) in
     let hs = alternatives-left E (entries xs h) in
     let moved = c .keep-alternatives-middle .ensures .moved in
-    let same = heres-same E xs (c .keep-alternatives-middle .last .alternatives) (c .args .moves) h (c .args .start) (c .pre .past) (c .pre .next) (c .pre .within) moved in
-    let all = both-moved E xs (c .keep-alternatives-middle .last .alternatives) (c .args .moves) h (c .args .start) (c .pre .past) (c .pre .next) (c .pre .within) moved
+    let short = left-short E xs (c .args .moves) (omega (arith, c .pre .next, c .pre .within)) in
+    let same = heres-same (alternatives-left E) xs (c .keep-alternatives-middle .last .alternatives) (c .args .moves) h (c .args .start) short (c .pre .past) (c .pre .next) (c .pre .within) moved in
+    let all = both-moved (alternatives-left E) xs (c .keep-alternatives-middle .last .alternatives) (c .args .moves) h (c .args .start) short (c .pre .past) (c .pre .next) (c .pre .within) moved
           (c .keep-alternatives-end .last .alternatives) (c .keep-alternatives-middle .result) (c .keep-alternatives-middle .ensures .end) (c .keep-alternatives-end .ensures .moved) in
     let count : h .count ≡ (h .first + h .count) - h .first = omega arith in
     let none = ap (λ n. has-yes E (take n (drop (h .first) xs))) count ∙ (sym (c .some-yes .ensures) ∙ c .if-some-yes .left) in
