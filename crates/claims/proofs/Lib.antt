@@ -18,3 +18,6 @@ pub mod Laid
 pub mod Leaving
 pub mod Settlings
 pub mod Ticking
+pub mod Compactings
+pub mod Fixed
+pub mod Agreeing

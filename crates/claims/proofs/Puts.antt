@@ -6,9 +6,9 @@ use Prim.Native.Nat.{ℕ, zero, suc, _+_, _-_, _≤_, _<_}
 use native.Mathlib.Omega.{arith}
 use native.Mathlib.Nat.{add-zero, add-assoc}
 use native.Mathlib.Numerals.{add-one}
-use lib.ListN.{length, getD, set, take, drop}
+use lib.ListN.{length, getD, set, take, drop, replicate}
 use Rattle.std.specs.shelf.Lists.{All, kept-by}
-use Rattle.std.proofs.shelf.Lists.{append-assoc, append-nil, map-append, length-append, length-map, length-push, length-take, length-take-le, length-drop, take-append-drop, take-at, take-all, drop-at, drop-drop, drop-append-le, drop-more, take-more, set-at, getD-drop, getD-take}
+use Rattle.std.proofs.shelf.Lists.{append-assoc, append-nil, map-append, length-append, length-map, length-push, length-take, length-take-le, length-drop, length-replicate, replicate-more, take-append-drop, take-at, take-all, drop-at, drop-drop, drop-append-le, drop-all, drop-more, take-more, set-at, getD-drop, getD-take}
 use Rattle.std.proofs.shelf.Elements.{kept-by-append, all-getD}
 use Rattle.std.proofs.shelf.Sums.{length-kept-by, countBy-le-length}
 use Rattle.formulas.specs.Lines.{part}
@@ -122,6 +122,29 @@ module _ {X : Type 0} where
 
   pub length-part : (xs : List X) (p n : ℕ) → p + n ≤ length xs → length (part xs p n) ≡ n
   length-part xs p n h = length-take-le n (drop p xs) (omega (arith, length-drop p xs))
+
+-- a table filled up with one entry
+module _ {X : Type 0} (old : List X) (p : ℕ) (x : X) where
+  pub fill-none : old ≡ put p (replicate (p - p) x) old
+  fill-none = let e : p - p ≡ 0 = omega arith in ap (λ n. put p (replicate n x) old) (sym e)
+
+  pub fill-more : (xs : List X) (k : ℕ) → p ≤ k → k < length old → xs ≡ put p (replicate (k - p) x) old → set xs k x ≡ put p (replicate ((k + 1) - p) x) old
+  fill-more xs k l h e =
+      let n = k - p in
+      let here : k ≡ p + length (replicate n x) = omega (arith, length-replicate n x) in
+      let next : n + 1 ≡ (k + 1) - p = omega arith in
+      ap₂ (λ (ys : List X) (i : ℕ). set ys i x) e here
+      ∙ (put-more p (replicate n x) old x (omega arith)
+      ∙ ap (λ ys. put p ys old) (replicate-more n x ∙ ap (λ i. replicate i x) next))
+
+  pub fill-all : (xs : List X) (k : ℕ) → p ≤ length old → k ≡ length old → xs ≡ put p (replicate (k - p) x) old → xs ≡ take p old ++ replicate (length old - p) x
+  fill-all xs k l e q =
+      let n = length old - p in
+      let end : length old ≤ p + length (replicate n x) = omega (arith, length-replicate n x) in
+      q
+      ∙ (ap (λ i. put p (replicate (i - p) x) old) e
+      ∙ (put-is p (replicate n x) old
+      ∙ ap (λ ys. take p old ++ ys) (ap (λ ys. replicate n x ++ ys) (drop-all (p + length (replicate n x)) old end) ∙ append-nil (replicate n x))))
 
 pub kept-all : {X : Type 0} (xs : List X) → kept-by (λ _. true) xs ≡ xs
 kept-all [] = refl

@@ -217,3 +217,50 @@ pub record Moved-as (f : ℕ → ℕ) (l : Line) (t a : ℕ) (ts : List Term) (a
   pub alternative : a′ ≡ a + length (alternatives-in (renumber f l))
   pub terms : ts′ ≡ put t (terms-in (renumber f l)) ts
   pub alternatives : alts′ ≡ put a (alternatives-in (renumber f l)) alts
+
+abbrev pub is-ticked : List ℕ → ℕ → Bool
+is-ticked to j = eqb (getD to j 0) 1
+
+-- node i is moved to the place w, and gets that number
+pub record Kept-at (i w t a : ℕ) (ns : List Node) (ts : List Term) (alts to : List ℕ) (w′ t′ a′ : ℕ) (ns′ : List Node) (ts′ : List Term) (alts′ to′ : List ℕ) : Type 0 where
+  pub moved : Moved-as (new-number to) (line ts alts (getD ns i no-node)) t a ts alts (getD ns′ w no-node) t′ a′ ts′ alts′
+  pub nodes : ns′ ≡ set ns w (getD ns′ w no-node)
+  pub numbers : to′ ≡ set to i w
+  pub count : w′ ≡ w + 1
+
+-- nothing changes
+pub record Gone-at (w t a : ℕ) (ns : List Node) (ts : List Term) (alts to : List ℕ) (w′ t′ a′ : ℕ) (ns′ : List Node) (ts′ : List Term) (alts′ to′ : List ℕ) : Type 0 where
+  pub nodes : ns′ ≡ ns
+  pub terms : ts′ ≡ ts
+  pub alternatives : alts′ ≡ alts
+  pub numbers : to′ ≡ to
+  pub count : w′ ≡ w
+  pub term : t′ ≡ t
+  pub alternative : a′ ≡ a
+
+-- what is ticked among the first i lines
+abbrev pub front-kept : (ℕ → Bool) → List Line → ℕ → List Line
+front-kept keep ls i = compact keep (rank keep) 0 (take i ls)
+
+-- the tables of lines ls after i of them were looked at: w are kept, with t terms and a alternatives; the rest is as it was
+pub record Compacting (keep : ℕ → Bool) (ls : List Line) (ns : List Node) (ts : List Term) (alts to : List ℕ) (i w t a : ℕ) (ns′ : List Node) (ts′ : List Term) (alts′ to′ : List ℕ) : Type 0 where
+  pub nodes : ns′ ≡ atop (node-table 0 0 (front-kept keep ls i)) ns
+  pub terms : ts′ ≡ atop (term-table (front-kept keep ls i)) ts
+  pub alternatives : alts′ ≡ atop (alternative-table (front-kept keep ls i)) alts
+  pub count : w ≡ length (front-kept keep ls i)
+  pub ranked : w ≡ rank keep i
+  pub term : t ≡ length (term-table (front-kept keep ls i))
+  pub alternative : a ≡ length (alternative-table (front-kept keep ls i))
+  pub low : w ≤ i
+  pub low-term : t ≤ length (term-table (take i ls))
+  pub low-alternative : a ≤ length (alternative-table (take i ls))
+  pub numbered : (j : ℕ) → j < i → keep j ≡ true → getD to′ j 0 ≡ rank keep j
+  pub unread : (j : ℕ) → i ≤ j → getD to′ j 0 ≡ getD to j 0
+
+-- the tables after the third pass, what is used of them, and the new numbers
+pub record Compacted (keep : ℕ → Bool) (ls : List Line) (ns : List Node) (ts : List Term) (alts : List ℕ) (f : Fills) (ns′ : List Node) (ts′ : List Term) (alts′ to′ : List ℕ) : Type 0 where
+  pub nodes : ns′ ≡ atop (node-table 0 0 (compact keep (rank keep) 0 ls)) ns
+  pub terms : ts′ ≡ atop (term-table (compact keep (rank keep) 0 ls)) ts
+  pub alternatives : alts′ ≡ atop (alternative-table (compact keep (rank keep) 0 ls)) alts
+  pub used : f ≡ fills (compact keep (rank keep) 0 ls)
+  pub numbered : (j : ℕ) → j < length ls → keep j ≡ true → getD to′ j 0 ≡ rank keep j

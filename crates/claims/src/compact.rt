@@ -1,15 +1,19 @@
 // The third pass of simplify: the nodes that are ticked move to the front, with their terms and alternatives.
 ghost use mathlib.Core.Path.{_≡_};
+ghost use mathlib.Core.Bool.{true};
 ghost use mathlib.Core.List.{map};
 ghost use Prim.Native.Nat.{ℕ, _+_, _^_, _≤_, _<_};
 ghost use lib.ListN.{length, getD, set};
 ghost use Rattle.std.specs.shelf.Lists.{All};
 ghost use Rattle.formulas.specs.Lines.{step, sum, entries, state-line, dist-line, line, lines};
 ghost use Rattle.formulas.specs.Layout.{node as node-of, terms-in, alternatives-in};
+ghost use Rattle.claims.specs.WellFormed.{line-at};
 ghost use Rattle.claims.specs.Rows.{no-node};
-ghost use Rattle.claims.specs.Simplify.{retarget, renumber};
-ghost use Rattle.claims.specs.Shrinking.{put, new-number, Near-step, Near-sum, Near-state, Near-dist, Near, Moved-as};
+ghost use Rattle.claims.specs.Simplify.{parts, retarget, renumber};
+ghost use Rattle.claims.specs.Shrinking.{put, new-number, Near-step, Near-sum, Near-state, Near-dist, Near, Moved-as, is-ticked, Kept-at, Gone-at, Compacted, Packed};
+use crate::reach::TICK;
 use formulas::node::DistNode;
+use formulas::node::Fills;
 use formulas::node::Node;
 use formulas::node::Run;
 use formulas::node::StateNode;
@@ -162,4 +166,42 @@ fn move_node(node: Node, term: u32, alternative: u32, terms: &mut [Term], altern
             Move { node: Node::Dist(moved.node), term: moved.end, alternative }
         }
     }
+}
+
+// Moves node `i` to the end of what is used, if it is ticked, and notes its new number.
+fn compact_at(i: usize, used: Fills, nodes: &mut [Node], terms: &mut [Term], alternatives: &mut [u32], map: &mut [u32]) -> Fills
+    requires node { ⌜ i < length (now nodes) ⌝ }
+    requires map { ⌜ i < length (now map) ⌝ }
+    requires low { ⌜ used .nodes ≤ i ⌝ }
+    requires few { ⌜ i + 1 < 2 ^ 32 ⌝ }
+    requires near { ⌜ Near (length (now map)) (now terms) (now alternatives) (used .terms) (used .alternatives) (getD (now nodes) i no-node) ⌝ }
+    ensures kept { λ r. ⌜ (getD (now (map .entry)) i 0 ≡ 1 → Kept-at i (used .nodes) (used .terms) (used .alternatives) (now (nodes .entry)) (now (terms .entry)) (now (alternatives .entry)) (now (map .entry)) (r .nodes) (r .terms) (r .alternatives) (now (nodes .exit)) (now (terms .exit)) (now (alternatives .exit)) (now (map .exit))) ⌝ }
+    ensures gone { λ r. ⌜ ((getD (now (map .entry)) i 0 ≡ 1 → ⊥) → Gone-at (used .nodes) (used .terms) (used .alternatives) (now (nodes .entry)) (now (terms .entry)) (now (alternatives .entry)) (now (map .entry)) (r .nodes) (r .terms) (r .alternatives) (now (nodes .exit)) (now (terms .exit)) (now (alternatives .exit)) (now (map .exit))) ⌝ }
+{
+    if map[i] != TICK {
+        return used;
+    }
+    let moved = move_node(nodes[i], used.terms, used.alternatives, terms, alternatives, map);
+    nodes[used.nodes as usize] = moved.node;
+    map[i] = used.nodes;
+    Fills {
+        nodes: used.nodes + 1,
+        terms: moved.term,
+        alternatives: moved.alternative,
+    }
+}
+
+// Moves all nodes that are ticked to the front, and says what is used then.
+pub(crate) fn compact(nodes: &mut [Node], terms: &mut [Term], alternatives: &mut [u32], map: &mut [u32]) -> Fills
+    requires packed { ⌜ Packed (now nodes) (now terms) (now alternatives) ⌝ }
+    requires room { ⌜ length (now nodes) ≤ length (now map) ⌝ }
+    requires few { ⌜ length (now nodes) < 2 ^ 32 ⌝ }
+    requires closed { ⌜ ((i : ℕ) → i < length (now nodes) → is-ticked (now map) i ≡ true → All (λ j. is-ticked (now map) j ≡ true) (parts (line-at (lines (now nodes) (now terms) (now alternatives)) i))) ⌝ }
+    ensures { λ r. ⌜ Compacted (is-ticked (now (map .entry))) (lines (now (nodes .entry)) (now (terms .entry)) (now (alternatives .entry))) (now (nodes .entry)) (now (terms .entry)) (now (alternatives .entry)) r (now (nodes .exit)) (now (terms .exit)) (now (alternatives .exit)) (now (map .exit)) ⌝ }
+{
+    let mut used = Fills { nodes: 0, terms: 0, alternatives: 0 };
+    for i in 0..nodes.len() {
+        used = compact_at(i, used, nodes, terms, alternatives, map);
+    }
+    used
 }

@@ -1,4 +1,5 @@
 // Claims: a formula with the mass removed from its system, opened from a draft and judged on systems.
+mod blank;
 pub mod claim;
 mod compact;
 pub mod fault;

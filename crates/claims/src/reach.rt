@@ -17,7 +17,7 @@ use formulas::node::StateNode;
 use formulas::node::Term;
 
 // In the map, a node that is reached.
-const TICK: u32 = 1;
+pub(crate) const TICK: u32 = 1;
 
 fn tick_all(wanted: &[u32], ticks: &mut [u32])
     requires { ⌜ All (λ d. d < length (now ticks)) (now wanted) ⌝ }
