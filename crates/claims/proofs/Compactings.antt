@@ -26,8 +26,9 @@ use Rattle.claims.specs.Shrinking.{put, atop, new-number, Near, Moved-as, is-t
 use Rattle.claims.proofs.Lists.{all-front, all-back, all-both, all-of-map}
 use Rattle.claims.proofs.Outcomes.{Ordered}
 use Rattle.claims.proofs.Prune.{rank-yes, rank-no}
-use Rattle.claims.proofs.Puts.{atop-more, atop-set, drop-atop, getD-past-atop, length-atop}
-use Rattle.claims.proofs.Laid.{table-push, table-at, table-within, length-nodes, nodes-push, node-at, part-front, part-back, line-of-node}
+use Rattle.claims.proofs.Puts.{atop-more, atop-set}
+use Rattle.claims.proofs.Laid.{table-push, length-nodes, nodes-push, part-front, part-back}
+use Rattle.claims.proofs.Here.{terms-before, alternatives-before, Base, Over, terms-long, alternatives-long, terms-fit, alternatives-fit, terms-here, alternatives-here, node-here, line-here}
 
 -- numbers that agree on the parts
 map-same : {X Y : Type 0} (f g : X → Y) (xs : List X) → All (λ x. f x ≡ g x) xs → map f xs ≡ map g xs
@@ -133,10 +134,10 @@ module _ (ls : List Line) (o : Ordered ls) (formed : (i : ℕ) → i < length ls
   W = front-kept keep ls i
 
   abbrev T : ℕ
-  T = length (term-table (take i ls))
+  T = terms-before ls i
 
   abbrev A : ℕ
-  A = length (alternative-table (take i ls))
+  A = alternatives-before ls i
 
   abbrev l : Line
   l = line-at ls i
@@ -144,48 +145,32 @@ module _ (ls : List Line) (o : Ordered ls) (formed : (i : ℕ) → i < length ls
   long : length ns₀ ≡ length ls
   long = ap length (sym nodes₀) ∙ length-nodes 0 0 ls
 
-  t-end : T + length (terms-in l) ≤ length (term-table ls)
-  t-end = table-within terms-in term-table refl (λ x xs. refl) ls i h
+  base : Base ls ns₀ ts₀ alts₀
+  base = record { nodes = nodes₀; terms = terms₀; alternatives = alternatives₀ }
 
-  a-end : A + length (alternatives-in l) ≤ length (alternative-table ls)
-  a-end = table-within alternatives-in alternative-table refl (λ x xs. refl) ls i h
+  over : Over ls i ns₀ ts₀ alts₀ (node-table 0 0 W) (term-table W) (alternative-table W) ns ts alts
+  over = record
+    { nodes = S .nodes
+    ; terms = S .terms
+    ; alternatives = S .alternatives
+    ; low = omega (arith, length-nodes 0 0 W, S .count, S .low)
+    ; low-term = omega (arith, S .low-term, S .term)
+    ; low-alternative = omega (arith, S .low-alternative, S .alternative)
+    }
 
-  terms-fit : length (term-table ls) ≤ length ts₀
-  terms-fit = omega (arith, ap length terms₀, length-append (term-table ls) (drop (length (term-table ls)) ts₀))
-
-  alternatives-fit : length (alternative-table ls) ≤ length alts₀
-  alternatives-fit = omega (arith, ap length alternatives₀, length-append (alternative-table ls) (drop (length (alternative-table ls)) alts₀))
-
-  terms-here : part ts T (length (terms-in l)) ≡ terms-in l
-  terms-here =
-      ap (λ xs. take (length (terms-in l)) (drop T xs)) (S .terms)
-      ∙ (ap (take (length (terms-in l))) (drop-atop T (term-table W) ts₀ (omega (arith, S .low-term, S .term)))
-      ∙ (ap (λ xs. take (length (terms-in l)) (drop T xs)) (sym terms₀)
-      ∙ table-at terms-in term-table refl (λ x xs. refl) ls i (drop (length (term-table ls)) ts₀) h))
-
-  alternatives-here : part alts A (length (alternatives-in l)) ≡ alternatives-in l
-  alternatives-here =
-      ap (λ xs. take (length (alternatives-in l)) (drop A xs)) (S .alternatives)
-      ∙ (ap (take (length (alternatives-in l))) (drop-atop A (alternative-table W) alts₀ (omega (arith, S .low-alternative, S .alternative)))
-      ∙ (ap (λ xs. take (length (alternatives-in l)) (drop A xs)) (sym alternatives₀)
-      ∙ table-at alternatives-in alternative-table refl (λ x xs. refl) ls i (drop (length (alternative-table ls)) alts₀) h))
-
-  node-here : getD ns i no-node ≡ node T A l
-  node-here =
-      ap (λ xs. getD xs i no-node) (S .nodes)
-      ∙ (getD-past-atop i (node-table 0 0 W) ns₀ no-node (omega (arith, length-nodes 0 0 W, S .count, S .low))
-      ∙ (ap (λ xs. getD xs i no-node) (sym nodes₀) ∙ node-at 0 0 T A ls i no-node h (omega arith) (omega arith)))
-
-  line-here : line ts alts (getD ns i no-node) ≡ l
-  line-here = ap (line ts alts) node-here ∙ line-of-node ts alts T A l terms-here alternatives-here
+  at-line : line ts alts (getD ns i no-node) ≡ l
+  at-line = line-here ls ns₀ ts₀ alts₀ base i h (node-table 0 0 W) (term-table W) (alternative-table W) ns ts alts over
 
   pub near-here : (n : ℕ) → i ≤ n → Near n ts alts t a (getD ns i no-node)
   near-here n top =
-      let tl : length ts ≡ length ts₀ = ap length (S .terms) ∙ length-atop (term-table W) ts₀ (omega (arith, S .term, S .low-term, t-end, terms-fit)) in
-      let al : length alts ≡ length alts₀ = ap length (S .alternatives) ∙ length-atop (alternative-table W) alts₀ (omega (arith, S .alternative, S .low-alternative, a-end, alternatives-fit)) in
-      subst (Near n ts alts t a) (sym node-here)
-        (near-node i n ts alts t a T A top (S .low-term) (S .low-alternative) (omega (arith, tl)) (omega (arith, al)) l (formed i h)
-          (omega (arith, tl, t-end, terms-fit)) (omega (arith, al, a-end, alternatives-fit)) terms-here alternatives-here)
+      let X = node-table 0 0 W in
+      let Y = term-table W in
+      let Z = alternative-table W in
+      subst (Near n ts alts t a) (sym (node-here ls ns₀ ts₀ alts₀ base i h X Y Z ns ts alts over))
+        (near-node i n ts alts t a T A top (S .low-term) (S .low-alternative)
+          (omega (arith, terms-long ls ns₀ ts₀ alts₀ base i h X Y Z ns ts alts over)) (omega (arith, alternatives-long ls ns₀ ts₀ alts₀ base i h X Y Z ns ts alts over)) l (formed i h)
+          (terms-fit ls ns₀ ts₀ alts₀ base i h X Y Z ns ts alts over) (alternatives-fit ls ns₀ ts₀ alts₀ base i h X Y Z ns ts alts over)
+          (terms-here ls ns₀ ts₀ alts₀ base i h X Y Z ns ts alts over) (alternatives-here ls ns₀ ts₀ alts₀ base i h X Y Z ns ts alts over))
 
   next : (b : Bool) → keep i ≡ b → front-kept keep ls (i + 1) ≡ W ++ cond b (renumber (rank keep) l ∷ []) []
   next b e =
@@ -212,7 +197,7 @@ module _ (ls : List Line) (o : Ordered ls) (formed : (i : ℕ) → i < length ls
       let agree : All (λ j. f j ≡ rank keep j) (parts l) =
             all-weaker (λ j. (keep j ≡ true) × (j < i)) (λ j. f j ≡ rank keep j) (λ j q. S .numbered j (q .1) (q .0)) (parts l)
               (all-both (λ j. keep j ≡ true) (λ j. j < i) (parts l) (closed i (omega (arith, long)) on) (o i h)) in
-      let now : renumber f (line ts alts (getD ns i no-node)) ≡ r = ap (renumber f) line-here ∙ renumber-same f (rank keep) l agree in
+      let now : renumber f (line ts alts (getD ns i no-node)) ≡ r = ap (renumber f) at-line ∙ renumber-same f (rank keep) l agree in
       let grown : front-kept keep ls (i + 1) ≡ W ++ (r ∷ []) = next true on in
       let wlen : length (node-table 0 0 W) ≡ w = length-nodes 0 0 W ∙ sym (S .count) in
       let terms-next : term-table W ++ terms-in r ≡ term-table (front-kept keep ls (i + 1)) =

@@ -16,6 +16,7 @@ pub mod Keeping
 pub mod Turns
 pub mod Laid
 pub mod Leaving
+pub mod Here
 pub mod Settlings
 pub mod Ticking
 pub mod Compactings

@@ -19,8 +19,9 @@ use Rattle.claims.specs.Simplify.{parts, coefficients, tone, Outcome, became, 
 use Rattle.claims.specs.Shrinking.{put, atop, glance, leaves, Led, Fit, Turned, Settled-at, left-lines, Light, Settling, Settled}
 use Rattle.claims.proofs.Lists.{all-front, all-back, grown-length}
 use Rattle.claims.proofs.Outcomes.{Ordered, outcome, outcome-at, Placed, placed}
-use Rattle.claims.proofs.Puts.{atop-more, atop-set, drop-atop, getD-past-atop, length-atop}
-use Rattle.claims.proofs.Laid.{table-push, table-at, table-within, table-shorter, length-nodes, nodes-push, node-at, part-front, part-back, line-of-node, tone-of-node, formed-ordered}
+use Rattle.claims.proofs.Puts.{atop-more, atop-set, length-atop}
+use Rattle.claims.proofs.Laid.{table-push, table-shorter, length-nodes, nodes-push, node-at, part-front, part-back, tone-of-node}
+use Rattle.claims.proofs.Here.{terms-before, alternatives-before, Base, Over, terms-long, alternatives-long, terms-fit, alternatives-fit, terms-here, alternatives-here, node-here, line-here}
 use Rattle.claims.proofs.Leaving.{Alike, leaves-alike, number-alike, own-leaves, fewer-terms, fewer-alternatives}
 
 -- a node whose parts were settled, and whose entries lie further on, can be settled
@@ -71,10 +72,10 @@ module _ (ls : List Line) (o : Ordered ls) (light : Light ls) (formed : (i : ℕ
   left = take i (left-lines ls)
 
   abbrev T : ℕ
-  T = length (term-table (take i ls))
+  T = terms-before ls i
 
   abbrev A : ℕ
-  A = length (alternative-table (take i ls))
+  A = alternatives-before ls i
 
   abbrev l : Line
   l = line-at ls i
@@ -98,41 +99,21 @@ module _ (ls : List Line) (o : Ordered ls) (light : Light ls) (formed : (i : ℕ
   a-low =
       omega (arith, S .alternative, ap (λ xs. length (alternative-table xs)) left-is, table-shorter alternatives-in alternative-table refl (λ x xs. refl) (leaves O) (fewer-alternatives O) (take i ls))
 
-  t-end : T + length (terms-in l) ≤ length (term-table ls)
-  t-end = table-within terms-in term-table refl (λ x xs. refl) ls i h
+  base : Base ls ns₀ ts₀ alts₀
+  base = record { nodes = nodes₀; terms = terms₀; alternatives = alternatives₀ }
 
-  a-end : A + length (alternatives-in l) ≤ length (alternative-table ls)
-  a-end = table-within alternatives-in alternative-table refl (λ x xs. refl) ls i h
+  over : Over ls i ns₀ ts₀ alts₀ (node-table 0 0 left) (term-table left) (alternative-table left) ns ts alts
+  over = record
+    { nodes = S .nodes
+    ; terms = S .terms
+    ; alternatives = S .alternatives
+    ; low = omega (arith, length-nodes 0 0 left, left-long)
+    ; low-term = omega (arith, t-low, S .term)
+    ; low-alternative = omega (arith, a-low, S .alternative)
+    }
 
-  terms-fit : length (term-table ls) ≤ length ts₀
-  terms-fit = omega (arith, ap length terms₀, length-append (term-table ls) (drop (length (term-table ls)) ts₀))
-
-  alternatives-fit : length (alternative-table ls) ≤ length alts₀
-  alternatives-fit = omega (arith, ap length alternatives₀, length-append (alternative-table ls) (drop (length (alternative-table ls)) alts₀))
-
-  -- line i as it was
-  terms-here : part ts T (length (terms-in l)) ≡ terms-in l
-  terms-here =
-      ap (λ xs. take (length (terms-in l)) (drop T xs)) (S .terms)
-      ∙ (ap (take (length (terms-in l))) (drop-atop T (term-table left) ts₀ (omega (arith, t-low, S .term)))
-      ∙ (ap (λ xs. take (length (terms-in l)) (drop T xs)) (sym terms₀)
-      ∙ table-at terms-in term-table refl (λ x xs. refl) ls i (drop (length (term-table ls)) ts₀) h))
-
-  alternatives-here : part alts A (length (alternatives-in l)) ≡ alternatives-in l
-  alternatives-here =
-      ap (λ xs. take (length (alternatives-in l)) (drop A xs)) (S .alternatives)
-      ∙ (ap (take (length (alternatives-in l))) (drop-atop A (alternative-table left) alts₀ (omega (arith, a-low, S .alternative)))
-      ∙ (ap (λ xs. take (length (alternatives-in l)) (drop A xs)) (sym alternatives₀)
-      ∙ table-at alternatives-in alternative-table refl (λ x xs. refl) ls i (drop (length (alternative-table ls)) alts₀) h))
-
-  node-here : getD ns i no-node ≡ node T A l
-  node-here =
-      ap (λ xs. getD xs i no-node) (S .nodes)
-      ∙ (getD-past-atop i (node-table 0 0 left) ns₀ no-node (omega (arith, length-nodes 0 0 left, left-long))
-      ∙ (ap (λ xs. getD xs i no-node) (sym nodes₀) ∙ node-at 0 0 T A ls i no-node h (omega arith) (omega arith)))
-
-  line-here : line ts alts (getD ns i no-node) ≡ l
-  line-here = ap (line ts alts) node-here ∙ line-of-node ts alts T A l terms-here alternatives-here
+  at-line : line ts alts (getD ns i no-node) ≡ l
+  at-line = line-here ls ns₀ ts₀ alts₀ base i h (node-table 0 0 left) (term-table left) (alternative-table left) ns ts alts over
 
   -- the lines before it
   number-at : (j : ℕ) → j < i → getD to j 0 ≡ O j .to
@@ -159,11 +140,14 @@ module _ (ls : List Line) (o : Ordered ls) (light : Light ls) (formed : (i : ℕ
 
   pub fit-here : Fit i ns to ts alts t a (getD ns i no-node)
   fit-here =
-      let tl : length ts ≡ length ts₀ = ap length (S .terms) ∙ length-atop (term-table left) ts₀ (omega (arith, S .term, t-low, t-end, terms-fit)) in
-      let al : length alts ≡ length alts₀ = ap length (S .alternatives) ∙ length-atop (alternative-table left) alts₀ (omega (arith, S .alternative, a-low, a-end, alternatives-fit)) in
-      subst (Fit i ns to ts alts t a) (sym node-here)
-        (fit-node i ns to ts alts t a T A led t-low a-low (omega (arith, tl)) (omega (arith, al)) l (formed i h)
-          (omega (arith, tl, t-end, terms-fit)) (omega (arith, al, a-end, alternatives-fit)) terms-here alternatives-here (light i h))
+      let X = node-table 0 0 left in
+      let Y = term-table left in
+      let Z = alternative-table left in
+      subst (Fit i ns to ts alts t a) (sym (node-here ls ns₀ ts₀ alts₀ base i h X Y Z ns ts alts over))
+        (fit-node i ns to ts alts t a T A led t-low a-low
+          (omega (arith, terms-long ls ns₀ ts₀ alts₀ base i h X Y Z ns ts alts over)) (omega (arith, alternatives-long ls ns₀ ts₀ alts₀ base i h X Y Z ns ts alts over)) l (formed i h)
+          (terms-fit ls ns₀ ts₀ alts₀ base i h X Y Z ns ts alts over) (alternatives-fit ls ns₀ ts₀ alts₀ base i h X Y Z ns ts alts over)
+          (terms-here ls ns₀ ts₀ alts₀ base i h X Y Z ns ts alts over) (alternatives-here ls ns₀ ts₀ alts₀ base i h X Y Z ns ts alts over) (light i h))
 
   -- what is left of the lines before it has their tones
   alike : (j : ℕ) → j < i → Alike (glance ns to) O j
@@ -203,9 +187,9 @@ module _ (ls : List Line) (o : Ordered ls) (light : Light ls) (formed : (i : ℕ
       → Settling ls ns₀ ts₀ alts₀ to₀ (i + 1) t′ a′ ns′ ts′ alts′ to′
   turn t′ a′ ns′ ts′ alts′ to′ s =
       let E = glance ns to in
-      let now : leaves E (line ts alts (getD ns i no-node)) ≡ leaves O l = ap (leaves E) line-here ∙ leaves-alike E O l all-alike in
+      let now : leaves E (line ts alts (getD ns i no-node)) ≡ leaves O l = ap (leaves E) at-line ∙ leaves-alike E O l all-alike in
       let number : getD to′ i 0 ≡ O i .to =
-            s .turned .number ∙ (ap (λ x. became i E x .to) line-here ∙ (number-alike E O i l all-alike ∙ ap (λ x. x .to) (sym (outcome-at ls o i h)))) in
+            s .turned .number ∙ (ap (λ x. became i E x .to) at-line ∙ (number-alike E O i l all-alike ∙ ap (λ x. x .to) (sym (outcome-at ls o i h)))) in
       let numbers = take i (outcomes ls) in
       let nlen : length (map (λ x. x .to) numbers) ≡ i = length-map numbers (λ x. x .to) ∙ length-take-le i (outcomes ls) (omega (arith, outcomes-long)) in
       let llen : length (node-table 0 0 left) ≡ i = length-nodes 0 0 left ∙ left-long in
