@@ -16,6 +16,7 @@ use Rattle.formulas.specs.Layout.{node, node-table, term-table, alternative-tab
 use Rattle.formulas.specs.Right.{Below, Formed}
 use Rattle.claims.specs.WellFormed.{line-at}
 use Rattle.claims.specs.Simplify.{tone, parts}
+use Rattle.claims.proofs.Lists.{all-front, all-back, all-of-map}
 use Rattle.claims.proofs.Outcomes.{Ordered}
 
 -- a table that is made of the entries of each line in turn
@@ -128,3 +129,10 @@ below-parts i (sum t ks) h = all-map (λ j. j < i) (λ k. k .node) ks h
 
 pub formed-ordered : (ls : List Line) → Formed ls → Ordered ls
 formed-ordered ls f i h = below-parts i (line-at ls i) (f i h)
+
+pub parts-below : (i : ℕ) (l : Line) → All (λ j. j < i) (parts l) → Below i l
+parts-below i (constant σ b) h = tt
+parts-below i (both σ j k) h = (h .0, h .1 .0)
+parts-below i (non σ j) h = h .0
+parts-below i (step a ms hs) h = (all-front (λ j. j < i) ms hs h, all-back (λ j. j < i) ms hs h)
+parts-below i (sum t ks) h = all-of-map (λ j. j < i) (λ k. k .node) ks h

@@ -16,6 +16,7 @@ use Rattle.formulas.specs.Layout.{terms-in, alternatives-in}
 use Rattle.claims.specs.Simplify.{parts, coefficients, Tone, yes, no, neither, tone, tone-of, is-yes, is-no, is-neither, Outcome, own, both-outcome, non-line, step-line, sum-line, alternatives-left, has-yes, retarget, terms-left, yes-part, became}
 use Rattle.claims.specs.Shrinking.{both-left, leaves}
 use Rattle.claims.proofs.Lists.{all-front, all-back, all-of-map, any-same, map-kept-same, kept-same}
+use Rattle.claims.proofs.Outcomes.{shrunk-parts}
 
 -- numbers and tones agree: what is left goes by them
 module _ (E E′ : ℕ → Outcome) where
@@ -151,3 +152,40 @@ module _ (E : ℕ → Outcome) where
       let u = t - yes-part E ks in
       let left = terms-left E ks in
       omega (arith, ap length (sum-sizes (eqb u 0) (ltb (coefficients left) u) u left .1))
+
+-- the parts of what is left
+module _ (E : ℕ → Outcome) (P : ℕ → Type 0) where
+  both-parts : (σ : Sort) (o p : Tone) (i j : ℕ) → P i → P j → All P (parts (both-left σ o p i j))
+  both-parts σ yes yes i j x y = tt
+  both-parts σ yes no i j x y = tt
+  both-parts σ yes neither i j x y = tt
+  both-parts σ no p i j x y = tt
+  both-parts σ neither yes i j x y = tt
+  both-parts σ neither no i j x y = tt
+  both-parts σ neither neither i j x y = (x, (y, tt))
+
+  non-parts : (σ : Sort) (o : Tone) (i : ℕ) → P i → All P (parts (non-line σ o i))
+  non-parts σ yes i x = tt
+  non-parts σ no i x = tt
+  non-parts σ neither i x = (x, tt)
+
+  step-parts : (b : Bool) (a : ℕ) (ms hs : List ℕ) → All P (ms ++ hs) → All P (parts (cond b (constant state true) (step-line a ms hs)))
+  step-parts true a ms hs x = tt
+  step-parts false a [] [] x = tt
+  step-parts false a [] (h ∷ hs) x = x
+  step-parts false a (m ∷ ms) hs x = x
+
+  sum-parts : (b c : Bool) (t : ℕ) (ks : List Term) → All P (map (λ k. k .node) ks) → All P (parts (cond b (constant dist true) (cond c (constant dist false) (sum t ks))))
+  sum-parts true c t ks x = tt
+  sum-parts false true t ks x = tt
+  sum-parts false false t ks x = x
+
+  pub leaves-parts : (l : Line) → All (λ j. P (E j .to)) (parts l) → All P (parts (leaves E l))
+  leaves-parts (constant σ b) h = tt
+  leaves-parts (both σ i j) h = both-parts σ (tone-of E i) (tone-of E j) (E i .to) (E j .to) (h .0) (h .1 .0)
+  leaves-parts (non σ i) h = non-parts σ (tone-of E i) (E i .to) (h .0)
+  leaves-parts (step a ms hs) h = step-parts (has-yes E hs) a (alternatives-left E ms) (alternatives-left E hs) (shrunk-parts E P (step a ms hs) h)
+  leaves-parts (sum t ks) h =
+      let u = t - yes-part E ks in
+      let left = terms-left E ks in
+      sum-parts (eqb u 0) (ltb (coefficients left) u) u left (shrunk-parts E P (sum t ks) h)

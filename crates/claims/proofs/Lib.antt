@@ -22,3 +22,5 @@ pub mod Ticking
 pub mod Compactings
 pub mod Fixed
 pub mod Agreeing
+pub mod Cutting
+pub mod Shrinks

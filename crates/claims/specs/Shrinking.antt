@@ -15,7 +15,7 @@ use Rattle.formulas.specs.declared.node.DistNode.{DistNode}
 use Rattle.formulas.specs.declared.node.DistNode as dn
 use Rattle.formulas.specs.declared.node.Run.{Run}
 use Rattle.formulas.specs.declared.node.Term.{Term}
-use Rattle.formulas.specs.Lines.{Sort, state, dist, Line, constant, both, non, step, sum, entries, line, lines}
+use Rattle.formulas.specs.Lines.{Sort, state, dist, Line, constant, both, non, step, sum, entries, line, lines, Formula}
 use Rattle.formulas.specs.declared.node.Fills.{Fills}
 use Rattle.formulas.specs.Layout.{terms-in, alternatives-in, node, node-table, term-table, alternative-table, fills}
 use Rattle.formulas.specs.Right.{Formed}
@@ -23,6 +23,7 @@ use Rattle.claims.specs.declared.settle.Seen.{Seen}
 use Rattle.claims.specs.declared.settle.Seen.the-variants as see
 use Rattle.claims.specs.WellFormed.{line-at}
 use Rattle.claims.specs.Rows.{no-node}
+use Rattle.claims.specs.Simplified.{blank-node, blank-term, padded, renewed}
 use Rattle.claims.specs.Simplify.{Tone, yes, no, neither, tone, tone-of, Outcome, became, non-line, step-line, sum-line, coefficients, alternatives-left, has-yes, terms-left, yes-part, blank, outcomes, parts, member, retarget, renumber, rank, compact}
 
 -- the list with these from the place p on
@@ -264,3 +265,41 @@ pub record Compacted (keep : ℕ → Bool) (ls : List Line) (ns : List Node) (ts
   pub alternatives : alts′ ≡ atop (alternative-table (compact keep (rank keep) 0 ls)) alts
   pub used : f ≡ fills (compact keep (rank keep) 0 ls)
   pub numbered : (j : ℕ) → j < length ls → keep j ≡ true → getD to′ j 0 ≡ rank keep j
+
+-- the formula G stands at the front of the tables
+pub record Cut (G : Formula) (ns : List Node) (ts : List Term) (alts : List ℕ) (f : Fills) (r : ℕ) (ns′ : List Node) (ts′ : List Term) (alts′ : List ℕ) : Type 0 where
+  pub nodes : ns′ ≡ atop (node-table 0 0 (G .lines)) ns
+  pub terms : ts′ ≡ atop (term-table (G .lines)) ts
+  pub alternatives : alts′ ≡ atop (alternative-table (G .lines)) alts
+  pub used : f ≡ fills (G .lines)
+  pub root : r ≡ G .root
+
+-- the formula G fills the tables from the front, blanks follow, and the map is cleared
+pub record Shrunk (G : Formula) (ns : List Node) (ts : List Term) (alts to : List ℕ) (f : Fills) (r : ℕ) (ns′ : List Node) (ts′ : List Term) (alts′ to′ : List ℕ) : Type 0 where
+  pub nodes : ns′ ≡ padded (length ns) blank-node (node-table 0 0 (G .lines))
+  pub terms : ts′ ≡ padded (length ts) blank-term (term-table (G .lines))
+  pub alternatives : alts′ ≡ padded (length alts) 0 (alternative-table (G .lines))
+  pub numbers : to′ ≡ padded (length to) 0 []
+  pub used : f ≡ fills (G .lines)
+  pub root : r ≡ G .root
+  pub fits : (f .nodes ≤ length ns) × (f .terms ≤ length ts) × (f .alternatives ≤ length alts)
+
+-- the tables hold a formula of these fills and this root that can be simplified
+pub record Ready-to-shrink (f : Fills) (r : ℕ) (ns : List Node) (ts : List Term) (alts : List ℕ) : Type 0 where
+  pub packed : Packed (take (f .nodes) ns) (take (f .terms) ts) (take (f .alternatives) alts)
+  pub light : Light (lines (take (f .nodes) ns) (take (f .terms) ts) (take (f .alternatives) alts))
+  pub root : r < f .nodes
+  pub few : f .nodes < 2 ^ 32
+  pub nodes : f .nodes ≤ length ns
+  pub terms : f .terms ≤ length ts
+  pub alternatives : f .alternatives ≤ length alts
+
+-- the formula G stands in place of one of the fills f
+pub record Renewed (G : Formula) (f : Fills) (ns : List Node) (ts : List Term) (alts to : List ℕ) (f′ : Fills) (r : ℕ) (ns′ : List Node) (ts′ : List Term) (alts′ to′ : List ℕ) : Type 0 where
+  pub nodes : ns′ ≡ renewed (f .nodes) blank-node (node-table 0 0 (G .lines)) ns
+  pub terms : ts′ ≡ renewed (f .terms) blank-term (term-table (G .lines)) ts
+  pub alternatives : alts′ ≡ renewed (f .alternatives) 0 (alternative-table (G .lines)) alts
+  pub numbers : to′ ≡ renewed (f .nodes) 0 [] to
+  pub used : f′ ≡ fills (G .lines)
+  pub root : r ≡ G .root
+  pub fits : (f′ .nodes ≤ f .nodes) × (f′ .terms ≤ f .terms) × (f′ .alternatives ≤ f .alternatives)

@@ -8,6 +8,7 @@ pub mod opening;
 mod reach;
 mod row;
 mod settle;
+pub mod simplify;
 mod spot;
 mod sum;
 pub mod tables;
