@@ -24,3 +24,4 @@ pub mod Fixed
 pub mod Agreeing
 pub mod Cutting
 pub mod Shrinks
+pub mod Admitting
