@@ -29,10 +29,10 @@ pub record Bench : Type 0 where
   pub nodes : List Node
   pub terms : List Term
   pub alternatives : List ℕ
-  pub to : List ℕ
+  pub map : List ℕ
 
 abbrev pub bench : Claim → List Node → List Term → List ℕ → List ℕ → Bench
-bench c ns ts alts to = record
+bench c ns ts alts map = record
   { fills = c .fills
   ; root = c .root
   ; mass = c .mass
@@ -40,7 +40,7 @@ bench c ns ts alts to = record
   ; nodes = ns
   ; terms = ts
   ; alternatives = alts
-  ; to = to
+  ; map = map
   }
 
 -- the formula of the claim
@@ -74,7 +74,7 @@ taken-up G b = record
   ; nodes = renewed (b .fills .nodes) blank-node (node-table 0 0 (G .lines)) (b .nodes)
   ; terms = renewed (b .fills .terms) blank-term (term-table (G .lines)) (b .terms)
   ; alternatives = renewed (b .fills .alternatives) 0 (alternative-table (G .lines)) (b .alternatives)
-  ; to = renewed (b .fills .nodes) 0 [] (b .to)
+  ; map = renewed (b .fills .nodes) 0 [] (b .map)
   }
 
 -- the answer of simplify, and what is on the bench then: a refusal changes nothing
@@ -88,5 +88,5 @@ done r b = record { answer = r; left = b }
 abbrev pub simplified : Bench → Done
 simplified b =
     cond (not (formula-in (b .fills) (b .root) (b .mass) (b .nodes) (b .terms) (b .alternatives))) (done (Err NoFormula) b)
-    (cond (ltb (length (b .to)) (b .fills .nodes)) (done (Err Short) b)
+    (cond (ltb (length (b .map)) (b .fills .nodes)) (done (Err Short) b)
     (done (Ok (fills (simplify (formula-on b) .lines))) (taken-up (simplify (formula-on b)) b)))
