@@ -59,27 +59,27 @@ admitted f root m ns ts alts e right layout formed n t a w =
     let terms : f .terms ≤ length ts = leb-true (f .terms) (length ts) (rest .0) in
     let alternatives : f .alternatives ≤ length alts = leb-true (f .alternatives) (length alts) (rest .1) in
     let laid = layout ns′ ts′ alts′ root m (both .1) in
-    let packed : Packed ns′ ts′ alts′ = record
-          { nodes = laid .0
-          ; terms = atop-itself (term-table ls) ts′ (laid .1)
-          ; alternatives = atop-itself (alternative-table ls) alts′ (laid .2)
-          ; formed = formed ns′ ts′ alts′ root m (both .1)
-          ; few-terms = omega (arith, length-take-le (f .terms) ts terms)
-          ; few-alternatives = omega (arith, length-take-le (f .alternatives) alts alternatives)
-          } in
-    record
-    { packed = packed
-    ; light = λ i h.
-        let i-in : i < length ns′ = omega (arith, lines-long ns′ ts′ alts′ packed) in
-        let B = base ns′ ts′ alts′ packed in
-        let V = as-it-is ns′ ts′ alts′ packed i in
-        let r = subst (Right ts′ alts′ m i) (node-here ls ns′ ts′ alts′ B i h [] [] [] ns′ ts′ alts′ V) (right i no-node i-in) in
-        omega (arith, right-light ts′ alts′ m i (terms-before ls i) (alternatives-before ls i) (line-at ls i) (terms-here ls ns′ ts′ alts′ B i h [] [] [] ns′ ts′ alts′ V) r)
-    ; root = omega (arith, state-inside ns′ root (and-parts (walk ns′ ts′ alts′ m 0 0 0 ns′) (isState ns′ root) (both .1) .1), length-take-le (f .nodes) ns nodes)
-    ; few = omega arith
-    ; nodes = nodes
-    ; terms = terms
-    ; alternatives = alternatives
+    let packed : Packed ns′ ts′ alts′ = record {
+      nodes = laid .0;
+      terms = atop-itself (term-table ls) ts′ (laid .1);
+      alternatives = atop-itself (alternative-table ls) alts′ (laid .2);
+      formed = formed ns′ ts′ alts′ root m (both .1);
+      few-terms = omega (arith, length-take-le (f .terms) ts terms);
+      few-alternatives = omega (arith, length-take-le (f .alternatives) alts alternatives);
+    } in
+    record {
+      packed = packed;
+      light = λ i h.
+          let i-in : i < length ns′ = omega (arith, lines-long ns′ ts′ alts′ packed) in
+          let B = base ns′ ts′ alts′ packed in
+          let V = as-it-is ns′ ts′ alts′ packed i in
+          let r = subst (Right ts′ alts′ m i) (node-here ls ns′ ts′ alts′ B i h [] [] [] ns′ ts′ alts′ V) (right i no-node i-in) in
+          omega (arith, right-light ts′ alts′ m i (terms-before ls i) (alternatives-before ls i) (line-at ls i) (terms-here ls ns′ ts′ alts′ B i h [] [] [] ns′ ts′ alts′ V) r);
+      root = omega (arith, state-inside ns′ root (and-parts (walk ns′ ts′ alts′ m 0 0 0 ns′) (isState ns′ root) (both .1) .1), length-take-le (f .nodes) ns nodes);
+      few = omega arith;
+      nodes = nodes;
+      terms = terms;
+      alternatives = alternatives;
     }
 
 -- the front of the tables, with its ends written in another way
@@ -104,7 +104,7 @@ module _ (f : Fills) (root : ℕ) (ns : List Node) (ts : List Term) (alts to : L
     Gives h =
         Shrunk (simplify (record { lines = on h; root = root })) (take (h .nodes) ns) (take (h .terms) ts) (take (h .alternatives) alts) (take (h .nodes) to) f′ r ns₁ ts₁ alts₁ to₁
         → Renewed (simplify (record { lines = on f; root = root })) f ns ts alts to f′ r
-          (ns₁ ++ drop (h .nodes) ns) (ts₁ ++ drop (h .terms) ts) (alts₁ ++ drop (h .alternatives) alts) (to₁ ++ drop (h .nodes) to)
+        (ns₁ ++ drop (h .nodes) ns) (ts₁ ++ drop (h .terms) ts) (alts₁ ++ drop (h .alternatives) alts) (to₁ ++ drop (h .nodes) to)
 
     plain : Gives f
     plain s =
@@ -113,14 +113,14 @@ module _ (f : Fills) (root : ℕ) (ns : List Node) (ts : List Term) (alts to : L
         let a = length-take-le (f .alternatives) alts (R .alternatives) in
         let k = length-take-le (f .nodes) to room in
         let G = simplify (record { lines = on f; root = root }) in
-        record
-        { nodes = ap (λ xs. xs ++ drop (f .nodes) ns) (s .nodes ∙ ap (λ m. padded m blank-node (node-table 0 0 (G .lines))) n)
-        ; terms = ap (λ xs. xs ++ drop (f .terms) ts) (s .terms ∙ ap (λ m. padded m blank-term (term-table (G .lines))) t)
-        ; alternatives = ap (λ xs. xs ++ drop (f .alternatives) alts) (s .alternatives ∙ ap (λ m. padded m 0 (alternative-table (G .lines))) a)
-        ; numbers = ap (λ xs. xs ++ drop (f .nodes) to) (s .numbers ∙ ap (λ m. padded m 0 []) k)
-        ; used = s .used
-        ; root = s .root
-        ; fits = (omega (arith, s .fits .0, n), omega (arith, s .fits .1, t), omega (arith, s .fits .2, a))
+        record {
+          nodes = ap (λ xs. xs ++ drop (f .nodes) ns) (s .nodes ∙ ap (λ m. padded m blank-node (node-table 0 0 (G .lines))) n);
+          terms = ap (λ xs. xs ++ drop (f .terms) ts) (s .terms ∙ ap (λ m. padded m blank-term (term-table (G .lines))) t);
+          alternatives = ap (λ xs. xs ++ drop (f .alternatives) alts) (s .alternatives ∙ ap (λ m. padded m 0 (alternative-table (G .lines))) a);
+          numbers = ap (λ xs. xs ++ drop (f .nodes) to) (s .numbers ∙ ap (λ m. padded m 0 []) k);
+          used = s .used;
+          root = s .root;
+          fits = (omega (arith, s .fits .0, n), omega (arith, s .fits .1, t), omega (arith, s .fits .2, a));
         }
 
     pub front-renewed : Gives g

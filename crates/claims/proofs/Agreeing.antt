@@ -35,9 +35,11 @@ reached-agree K i (x ∷ xs) (y ∷ ys) r s h g =
   where
     later : List ℕ
     later = reached (suc i) xs r
+
     wider : (b : Bool) (j : ℕ) → member j later ≡ true → member j (cond b (parts x ++ later) later) ≡ true
     wider true j q = member-back j (parts x) later q
     wider false j q = q
+
     go : (b : Bool) → member i later ≡ b → later ≡ reached (suc i) ys r
         → cond (member i later) (parts x ++ later) later ≡ cond (member i (reached (suc i) ys r)) (parts y ++ reached (suc i) ys r) (reached (suc i) ys r)
     go true q e =
@@ -76,11 +78,11 @@ simplify-left ls root o h =
     let F : Formula = with-root ls root in
     let O : ℕ → Outcome = outcome ls in
     prune-agree (lines-of ls) (left-lines ls) (O root .to) (lines-length ls ∙ sym (length-map ls (leaves O))) (λ k n s g e.
-      let same : n ≡ k = omega arith in
-      let inside : k < length ls = omega (arith, lines-length ls) in
-      let own : O k .to ≡ k = kept-fixed F o h k (subst (λ j. kept (settle F) j ≡ true) same e) in
-      let at = outcome-at ls o k inside in
-      let before = all-weaker (λ j. j < k) (λ j. O j .to < k) (λ j q. omega (arith, placed ls o j (omega arith) .near)) (parts (line-at ls k)) (o k inside) in
-      lines-get ls k
-      ∙ (ap (λ x. x .line) at
-      ∙ (own-leaves k O (line-at ls k) before (ap (λ x. x .to) (sym at) ∙ own) ∙ sym (getD-map (leaves O) ls k (constant state true) (constant state true) inside))))
+    let same : n ≡ k = omega arith in
+    let inside : k < length ls = omega (arith, lines-length ls) in
+    let own : O k .to ≡ k = kept-fixed F o h k (subst (λ j. kept (settle F) j ≡ true) same e) in
+    let at = outcome-at ls o k inside in
+    let before = all-weaker (λ j. j < k) (λ j. O j .to < k) (λ j q. omega (arith, placed ls o j (omega arith) .near)) (parts (line-at ls k)) (o k inside) in
+    lines-get ls k
+    ∙ (ap (λ x. x .line) at
+    ∙ (own-leaves k O (line-at ls k) before (ap (λ x. x .to) (sym at) ∙ own) ∙ sym (getD-map (leaves O) ls k (constant state true) (constant state true) inside))))

@@ -44,8 +44,8 @@ module _ (f g : ℕ → ℕ) where
       ap₂ (λ (x y : List ℕ). step a x y) (map-same f g ms (all-front (λ j. f j ≡ g j) ms hs h)) (map-same f g hs (all-back (λ j. f j ≡ g j) ms hs h))
   renumber-same (sum t ks) h =
       ap (sum t) (map-same (retarget f) (retarget g) ks
-        (all-weaker (λ k. f (k .node) ≡ g (k .node)) (λ k. retarget f k ≡ retarget g k) (λ k e. λ i. record { coefficient = k .coefficient; node = e i }) ks
-          (all-of-map (λ j. f j ≡ g j) (λ k. k .node) ks h)))
+      (all-weaker (λ k. f (k .node) ≡ g (k .node)) (λ k. retarget f k ≡ retarget g k) (λ k e. λ i. record { coefficient = k .coefficient; node = e i }) ks
+      (all-of-map (λ j. f j ≡ g j) (λ k. k .node) ks h)))
 
 module _ (f : ℕ → ℕ) where
   renumber-terms : (l : Line) → length (terms-in (renumber f l)) ≡ length (terms-in l)
@@ -91,42 +91,42 @@ module _ (i n : ℕ) (ts : List Term) (alts : List ℕ) (t a T A : ℕ) (top : i
   near-node (both dist j k) b v w x y = (omega (arith, b .0), omega (arith, b .1))
   near-node (non state j) b v w x y = omega arith
   near-node (non dist j) b v w x y = omega arith
-  near-node (step c ms hs) b v w x y = record
-    { past = q
-    ; next = omega arith
-    ; within = omega (arith, w, length-append ms hs)
-    ; small = few-alternatives
-    ; moves = subst (All (λ d. d < n)) (sym (part-front alts A ms hs y)) (lower ms (b .0))
-    ; heres = subst (All (λ d. d < n)) (sym (part-back alts A ms hs y)) (lower hs (b .1))
-    }
-  near-node (sum c ks) b v w x y = record
-    { past = p
-    ; within = v
-    ; small = few-terms
-    ; below = subst (All (λ k. k .node < n)) (sym x) (all-weaker (λ k. k .node < i) (λ k. k .node < n) (λ k h. omega arith) ks b)
-    }
-
-pub compacting-none : (keep : ℕ → Bool) (ls : List Line) (ns : List Node) (ts : List Term) (alts to : List ℕ) → Compacting keep ls ns ts alts to 0 0 0 0 ns ts alts to
-compacting-none keep ls ns ts alts to = record
-  { nodes = refl
-  ; terms = refl
-  ; alternatives = refl
-  ; count = refl
-  ; ranked = refl
-  ; term = refl
-  ; alternative = refl
-  ; low = omega arith
-  ; low-term = omega arith
-  ; low-alternative = omega arith
-  ; numbered = λ j h. absurd (omega arith)
-  ; unread = λ j h. refl
+  near-node (step c ms hs) b v w x y = record {
+    past = q;
+    next = omega arith;
+    within = omega (arith, w, length-append ms hs);
+    small = few-alternatives;
+    moves = subst (All (λ d. d < n)) (sym (part-front alts A ms hs y)) (lower ms (b .0));
+    heres = subst (All (λ d. d < n)) (sym (part-back alts A ms hs y)) (lower hs (b .1));
+  }
+  near-node (sum c ks) b v w x y = record {
+    past = p;
+    within = v;
+    small = few-terms;
+    below = subst (All (λ k. k .node < n)) (sym x) (all-weaker (λ k. k .node < i) (λ k. k .node < n) (λ k h. omega arith) ks b);
   }
 
+pub compacting-none : (keep : ℕ → Bool) (ls : List Line) (ns : List Node) (ts : List Term) (alts to : List ℕ) → Compacting keep ls ns ts alts to 0 0 0 0 ns ts alts to
+compacting-none keep ls ns ts alts to = record {
+  nodes = refl;
+  terms = refl;
+  alternatives = refl;
+  count = refl;
+  ranked = refl;
+  term = refl;
+  alternative = refl;
+  low = omega arith;
+  low-term = omega arith;
+  low-alternative = omega arith;
+  numbered = λ j h. absurd (omega arith);
+  unread = λ j h. refl;
+}
+
 module _ (ls : List Line) (o : Ordered ls) (formed : (i : ℕ) → i < length ls → Below i (line-at ls i))
-  (ns₀ : List Node) (ts₀ : List Term) (alts₀ to₀ : List ℕ) (nodes₀ : node-table 0 0 ls ≡ ns₀) (terms₀ : atop (term-table ls) ts₀ ≡ ts₀) (alternatives₀ : atop (alternative-table ls) alts₀ ≡ alts₀)
-  (few-terms : length ts₀ < 2 ^ 32) (few-alternatives : length alts₀ < 2 ^ 32)
-  (closed : (i : ℕ) → i < length ns₀ → is-ticked to₀ i ≡ true → All (λ j. is-ticked to₀ j ≡ true) (parts (line-at ls i)))
-  (i w t a : ℕ) (ns : List Node) (ts : List Term) (alts to : List ℕ) (S : Compacting (is-ticked to₀) ls ns₀ ts₀ alts₀ to₀ i w t a ns ts alts to) (h : i < length ls) where
+    (ns₀ : List Node) (ts₀ : List Term) (alts₀ to₀ : List ℕ) (nodes₀ : node-table 0 0 ls ≡ ns₀) (terms₀ : atop (term-table ls) ts₀ ≡ ts₀) (alternatives₀ : atop (alternative-table ls) alts₀ ≡ alts₀)
+    (few-terms : length ts₀ < 2 ^ 32) (few-alternatives : length alts₀ < 2 ^ 32)
+    (closed : (i : ℕ) → i < length ns₀ → is-ticked to₀ i ≡ true → All (λ j. is-ticked to₀ j ≡ true) (parts (line-at ls i)))
+    (i w t a : ℕ) (ns : List Node) (ts : List Term) (alts to : List ℕ) (S : Compacting (is-ticked to₀) ls ns₀ ts₀ alts₀ to₀ i w t a ns ts alts to) (h : i < length ls) where
   abbrev keep : ℕ → Bool
   keep = is-ticked to₀
 
@@ -149,14 +149,14 @@ module _ (ls : List Line) (o : Ordered ls) (formed : (i : ℕ) → i < length ls
   base = record { nodes = nodes₀; terms = terms₀; alternatives = alternatives₀ }
 
   over : Over ls i ns₀ ts₀ alts₀ (node-table 0 0 W) (term-table W) (alternative-table W) ns ts alts
-  over = record
-    { nodes = S .nodes
-    ; terms = S .terms
-    ; alternatives = S .alternatives
-    ; low = omega (arith, length-nodes 0 0 W, S .count, S .low)
-    ; low-term = omega (arith, S .low-term, S .term)
-    ; low-alternative = omega (arith, S .low-alternative, S .alternative)
-    }
+  over = record {
+    nodes = S .nodes;
+    terms = S .terms;
+    alternatives = S .alternatives;
+    low = omega (arith, length-nodes 0 0 W, S .count, S .low);
+    low-term = omega (arith, S .low-term, S .term);
+    low-alternative = omega (arith, S .low-alternative, S .alternative);
+  }
 
   at-line : line ts alts (getD ns i no-node) ≡ l
   at-line = line-here ls ns₀ ts₀ alts₀ base i h (node-table 0 0 W) (term-table W) (alternative-table W) ns ts alts over
@@ -167,10 +167,10 @@ module _ (ls : List Line) (o : Ordered ls) (formed : (i : ℕ) → i < length ls
       let Y = term-table W in
       let Z = alternative-table W in
       subst (Near n ts alts t a) (sym (node-here ls ns₀ ts₀ alts₀ base i h X Y Z ns ts alts over))
-        (near-node i n ts alts t a T A top (S .low-term) (S .low-alternative)
-          (omega (arith, terms-long ls ns₀ ts₀ alts₀ base i h X Y Z ns ts alts over)) (omega (arith, alternatives-long ls ns₀ ts₀ alts₀ base i h X Y Z ns ts alts over)) l (formed i h)
-          (terms-fit ls ns₀ ts₀ alts₀ base i h X Y Z ns ts alts over) (alternatives-fit ls ns₀ ts₀ alts₀ base i h X Y Z ns ts alts over)
-          (terms-here ls ns₀ ts₀ alts₀ base i h X Y Z ns ts alts over) (alternatives-here ls ns₀ ts₀ alts₀ base i h X Y Z ns ts alts over))
+      (near-node i n ts alts t a T A top (S .low-term) (S .low-alternative)
+      (omega (arith, terms-long ls ns₀ ts₀ alts₀ base i h X Y Z ns ts alts over)) (omega (arith, alternatives-long ls ns₀ ts₀ alts₀ base i h X Y Z ns ts alts over)) l (formed i h)
+      (terms-fit ls ns₀ ts₀ alts₀ base i h X Y Z ns ts alts over) (alternatives-fit ls ns₀ ts₀ alts₀ base i h X Y Z ns ts alts over)
+      (terms-here ls ns₀ ts₀ alts₀ base i h X Y Z ns ts alts over) (alternatives-here ls ns₀ ts₀ alts₀ base i h X Y Z ns ts alts over))
 
   next : (b : Bool) → keep i ≡ b → front-kept keep ls (i + 1) ≡ W ++ cond b (renumber (rank keep) l ∷ []) []
   next b e =
@@ -195,45 +195,45 @@ module _ (ls : List Line) (o : Ordered ls) (formed : (i : ℕ) → i < length ls
       let r = renumber (rank keep) l in
       let on : keep i ≡ true = eq-eqb (getD to₀ i 0) 1 (sym (S .unread i (omega arith)) ∙ tick) in
       let agree : All (λ j. f j ≡ rank keep j) (parts l) =
-            all-weaker (λ j. (keep j ≡ true) × (j < i)) (λ j. f j ≡ rank keep j) (λ j q. S .numbered j (q .1) (q .0)) (parts l)
-              (all-both (λ j. keep j ≡ true) (λ j. j < i) (parts l) (closed i (omega (arith, long)) on) (o i h)) in
+      all-weaker (λ j. (keep j ≡ true) × (j < i)) (λ j. f j ≡ rank keep j) (λ j q. S .numbered j (q .1) (q .0)) (parts l)
+      (all-both (λ j. keep j ≡ true) (λ j. j < i) (parts l) (closed i (omega (arith, long)) on) (o i h)) in
       let now : renumber f (line ts alts (getD ns i no-node)) ≡ r = ap (renumber f) at-line ∙ renumber-same f (rank keep) l agree in
       let grown : front-kept keep ls (i + 1) ≡ W ++ (r ∷ []) = next true on in
       let wlen : length (node-table 0 0 W) ≡ w = length-nodes 0 0 W ∙ sym (S .count) in
       let terms-next : term-table W ++ terms-in r ≡ term-table (front-kept keep ls (i + 1)) =
-            sym (table-push terms-in term-table refl (λ x xs. refl) W r) ∙ ap term-table (sym grown) in
+      sym (table-push terms-in term-table refl (λ x xs. refl) W r) ∙ ap term-table (sym grown) in
       let alternatives-next : alternative-table W ++ alternatives-in r ≡ alternative-table (front-kept keep ls (i + 1)) =
-            sym (table-push alternatives-in alternative-table refl (λ x xs. refl) W r) ∙ ap alternative-table (sym grown) in
+      sym (table-push alternatives-in alternative-table refl (λ x xs. refl) W r) ∙ ap alternative-table (sym grown) in
       let term : t′ ≡ t + length (terms-in r) = s .moved .term ∙ ap (λ x. t + length (terms-in x)) now in
       let alternative : a′ ≡ a + length (alternatives-in r) = s .moved .alternative ∙ ap (λ x. a + length (alternatives-in x)) now in
-      record
-      { nodes =
-          s .nodes
-          ∙ (ap₂ (λ (xs : List Node) (n : Node). set xs w n) (S .nodes) (s .moved .is ∙ ap (node t a) now)
-          ∙ (ap (λ k. set (atop (node-table 0 0 W) ns₀) k (node t a r)) (sym wlen)
-          ∙ (atop-set (node-table 0 0 W) ns₀ (node t a r) (omega (arith, wlen, S .low, long))
-          ∙ ap (λ xs. atop xs ns₀) (sym (nodes-push 0 0 t a W r (omega (arith, S .term)) (omega (arith, S .alternative))) ∙ ap (node-table 0 0) (sym grown)))))
-      ; terms =
-          s .moved .terms
-          ∙ (ap₂ (λ (xs : List Term) (x : Line). put t (terms-in x) xs) (S .terms) now
-          ∙ (atop-more (term-table W) (terms-in r) ts₀ t (S .term) ∙ ap (λ xs. atop xs ts₀) terms-next))
-      ; alternatives =
-          s .moved .alternatives
-          ∙ (ap₂ (λ (xs : List ℕ) (x : Line). put a (alternatives-in x) xs) (S .alternatives) now
-          ∙ (atop-more (alternative-table W) (alternatives-in r) alts₀ a (S .alternative) ∙ ap (λ xs. atop xs alts₀) alternatives-next))
-      ; count = omega (arith, s .count, S .count, ap length grown, length-push W r)
-      ; ranked = s .count ∙ (ap (λ k. k + 1) (S .ranked) ∙ (add-one (rank keep i) ∙ (sym (rank-yes keep i on) ∙ ap (rank keep) (sym (add-one i)))))
-      ; term = omega (arith, term, S .term, ap length terms-next, length-append (term-table W) (terms-in r))
-      ; alternative = omega (arith, alternative, S .alternative, ap length alternatives-next, length-append (alternative-table W) (alternatives-in r))
-      ; low = omega (arith, s .count, S .low)
-      ; low-term = omega (arith, term, renumber-terms (rank keep) l, S .low-term, T-next)
-      ; low-alternative = omega (arith, alternative, renumber-alternatives (rank keep) l, S .low-alternative, A-next)
-      ; numbered = λ j q e.
-          ⊎-elim
-          (λ (z : j ≡ i). ap (λ xs. getD xs j 0) (s .numbers) ∙ (ap (λ k. getD (set to i w) k 0) z ∙ (getD-set-same to i w 0 g ∙ (S .ranked ∙ ap (rank keep) (sym z)))))
-          (λ (z : j ≡ i → ⊥). ap (λ xs. getD xs j 0) (s .numbers) ∙ (getD-set-other to i j w 0 z ∙ S .numbered j (below-other i j q z) e))
-          (cases-eq j i)
-      ; unread = λ j q. ap (λ xs. getD xs j 0) (s .numbers) ∙ (getD-set-other to i j w 0 (λ z. omega arith) ∙ S .unread j (omega arith))
+      record {
+        nodes =
+            s .nodes
+            ∙ (ap₂ (λ (xs : List Node) (n : Node). set xs w n) (S .nodes) (s .moved .is ∙ ap (node t a) now)
+            ∙ (ap (λ k. set (atop (node-table 0 0 W) ns₀) k (node t a r)) (sym wlen)
+            ∙ (atop-set (node-table 0 0 W) ns₀ (node t a r) (omega (arith, wlen, S .low, long))
+            ∙ ap (λ xs. atop xs ns₀) (sym (nodes-push 0 0 t a W r (omega (arith, S .term)) (omega (arith, S .alternative))) ∙ ap (node-table 0 0) (sym grown)))));
+        terms =
+            s .moved .terms
+            ∙ (ap₂ (λ (xs : List Term) (x : Line). put t (terms-in x) xs) (S .terms) now
+            ∙ (atop-more (term-table W) (terms-in r) ts₀ t (S .term) ∙ ap (λ xs. atop xs ts₀) terms-next));
+        alternatives =
+            s .moved .alternatives
+            ∙ (ap₂ (λ (xs : List ℕ) (x : Line). put a (alternatives-in x) xs) (S .alternatives) now
+            ∙ (atop-more (alternative-table W) (alternatives-in r) alts₀ a (S .alternative) ∙ ap (λ xs. atop xs alts₀) alternatives-next));
+        count = omega (arith, s .count, S .count, ap length grown, length-push W r);
+        ranked = s .count ∙ (ap (λ k. k + 1) (S .ranked) ∙ (add-one (rank keep i) ∙ (sym (rank-yes keep i on) ∙ ap (rank keep) (sym (add-one i)))));
+        term = omega (arith, term, S .term, ap length terms-next, length-append (term-table W) (terms-in r));
+        alternative = omega (arith, alternative, S .alternative, ap length alternatives-next, length-append (alternative-table W) (alternatives-in r));
+        low = omega (arith, s .count, S .low);
+        low-term = omega (arith, term, renumber-terms (rank keep) l, S .low-term, T-next);
+        low-alternative = omega (arith, alternative, renumber-alternatives (rank keep) l, S .low-alternative, A-next);
+        numbered = λ j q e.
+            ⊎-elim
+            (λ (z : j ≡ i). ap (λ xs. getD xs j 0) (s .numbers) ∙ (ap (λ k. getD (set to i w) k 0) z ∙ (getD-set-same to i w 0 g ∙ (S .ranked ∙ ap (rank keep) (sym z)))))
+            (λ (z : j ≡ i → ⊥). ap (λ xs. getD xs j 0) (s .numbers) ∙ (getD-set-other to i j w 0 z ∙ S .numbered j (below-other i j q z) e))
+            (cases-eq j i);
+        unread = λ j q. ap (λ xs. getD xs j 0) (s .numbers) ∙ (getD-set-other to i j w 0 (λ z. omega arith) ∙ S .unread j (omega arith));
       }
 
   pub gone-turn : (w′ t′ a′ : ℕ) (ns′ : List Node) (ts′ : List Term) (alts′ to′ : List ℕ) → (getD to i 0 ≡ 1 → ⊥) → Gone-at w t a ns ts alts to w′ t′ a′ ns′ ts′ alts′ to′
@@ -241,23 +241,23 @@ module _ (ls : List Line) (o : Ordered ls) (formed : (i : ℕ) → i < length ls
   gone-turn w′ t′ a′ ns′ ts′ alts′ to′ tick s =
       let off : keep i ≡ false = ne-eqb (getD to₀ i 0) 1 (λ z. tick (S .unread i (omega arith) ∙ z)) in
       let same : front-kept keep ls (i + 1) ≡ W = next false off ∙ append-nil W in
-      record
-      { nodes = s .nodes ∙ (S .nodes ∙ ap (λ xs. atop (node-table 0 0 xs) ns₀) (sym same))
-      ; terms = s .terms ∙ (S .terms ∙ ap (λ xs. atop (term-table xs) ts₀) (sym same))
-      ; alternatives = s .alternatives ∙ (S .alternatives ∙ ap (λ xs. atop (alternative-table xs) alts₀) (sym same))
-      ; count = s .count ∙ (S .count ∙ ap length (sym same))
-      ; ranked = s .count ∙ (S .ranked ∙ (sym (rank-no keep i off) ∙ ap (rank keep) (sym (add-one i))))
-      ; term = s .term ∙ (S .term ∙ ap (λ xs. length (term-table xs)) (sym same))
-      ; alternative = s .alternative ∙ (S .alternative ∙ ap (λ xs. length (alternative-table xs)) (sym same))
-      ; low = omega (arith, s .count, S .low)
-      ; low-term = omega (arith, s .term, S .low-term, T-next)
-      ; low-alternative = omega (arith, s .alternative, S .low-alternative, A-next)
-      ; numbered = λ j q e.
-          ⊎-elim
-          (λ (z : j ≡ i). absurd (false≢true (sym off ∙ (ap keep (sym z) ∙ e))))
-          (λ (z : j ≡ i → ⊥). ap (λ xs. getD xs j 0) (s .numbers) ∙ S .numbered j (below-other i j q z) e)
-          (cases-eq j i)
-      ; unread = λ j q. ap (λ xs. getD xs j 0) (s .numbers) ∙ S .unread j (omega arith)
+      record {
+        nodes = s .nodes ∙ (S .nodes ∙ ap (λ xs. atop (node-table 0 0 xs) ns₀) (sym same));
+        terms = s .terms ∙ (S .terms ∙ ap (λ xs. atop (term-table xs) ts₀) (sym same));
+        alternatives = s .alternatives ∙ (S .alternatives ∙ ap (λ xs. atop (alternative-table xs) alts₀) (sym same));
+        count = s .count ∙ (S .count ∙ ap length (sym same));
+        ranked = s .count ∙ (S .ranked ∙ (sym (rank-no keep i off) ∙ ap (rank keep) (sym (add-one i))));
+        term = s .term ∙ (S .term ∙ ap (λ xs. length (term-table xs)) (sym same));
+        alternative = s .alternative ∙ (S .alternative ∙ ap (λ xs. length (alternative-table xs)) (sym same));
+        low = omega (arith, s .count, S .low);
+        low-term = omega (arith, s .term, S .low-term, T-next);
+        low-alternative = omega (arith, s .alternative, S .low-alternative, A-next);
+        numbered = λ j q e.
+            ⊎-elim
+            (λ (z : j ≡ i). absurd (false≢true (sym off ∙ (ap keep (sym z) ∙ e))))
+            (λ (z : j ≡ i → ⊥). ap (λ xs. getD xs j 0) (s .numbers) ∙ S .numbered j (below-other i j q z) e)
+            (cases-eq j i);
+        unread = λ j q. ap (λ xs. getD xs j 0) (s .numbers) ∙ S .unread j (omega arith);
       }
 
 pub compacted : (keep : ℕ → Bool) (ls : List Line) (ns : List Node) (ts : List Term) (alts to : List ℕ) (i w t a : ℕ) (ns′ : List Node) (ts′ : List Term) (alts′ to′ : List ℕ)
@@ -265,14 +265,14 @@ pub compacted : (keep : ℕ → Bool) (ls : List Line) (ns : List Node) (ts : Li
     → Compacted keep ls ns ts alts (record { nodes = w; terms = t; alternatives = a }) ns′ ts′ alts′ to′
 compacted keep ls ns ts alts to i w t a ns′ ts′ alts′ to′ S h =
     let all : front-kept keep ls i ≡ compact keep (rank keep) 0 ls = ap (compact keep (rank keep) 0) (take-all i ls (omega arith)) in
-    record
-    { nodes = S .nodes ∙ ap (λ xs. atop (node-table 0 0 xs) ns) all
-    ; terms = S .terms ∙ ap (λ xs. atop (term-table xs) ts) all
-    ; alternatives = S .alternatives ∙ ap (λ xs. atop (alternative-table xs) alts) all
-    ; used = λ k. record
-        { nodes = (S .count ∙ ap length all) k
-        ; terms = (S .term ∙ ap (λ xs. length (term-table xs)) all) k
-        ; alternatives = (S .alternative ∙ ap (λ xs. length (alternative-table xs)) all) k
-        }
-    ; numbered = λ j g e. S .numbered j (omega arith) e
+    record {
+      nodes = S .nodes ∙ ap (λ xs. atop (node-table 0 0 xs) ns) all;
+      terms = S .terms ∙ ap (λ xs. atop (term-table xs) ts) all;
+      alternatives = S .alternatives ∙ ap (λ xs. atop (alternative-table xs) alts) all;
+      used = λ k. record {
+        nodes = (S .count ∙ ap length all) k;
+        terms = (S .term ∙ ap (λ xs. length (term-table xs)) all) k;
+        alternatives = (S .alternative ∙ ap (λ xs. length (alternative-table xs)) all) k;
+      };
+      numbered = λ j g e. S .numbered j (omega arith) e;
     }

@@ -57,18 +57,17 @@ module _ (ns : List Node) (ts : List Term) (alts : List ℕ) (P : Packed ns ts a
   packed-runs i h =
       let g : i < length ls = omega (arith, lines-long) in
       subst (Runs ts alts) (sym (node-here ls ns ts alts base i g [] [] [] ns ts alts (as-it-is i)))
-        (runs-node ts alts (terms-before ls i) (alternatives-before ls i) (line-at ls i)
-          (terms-fit ls ns ts alts base i g [] [] [] ns ts alts (as-it-is i)) (alternatives-fit ls ns ts alts base i g [] [] [] ns ts alts (as-it-is i)))
+      (runs-node ts alts (terms-before ls i) (alternatives-before ls i) (line-at ls i)
+      (terms-fit ls ns ts alts base i g [] [] [] ns ts alts (as-it-is i)) (alternatives-fit ls ns ts alts base i g [] [] [] ns ts alts (as-it-is i)))
 
   pub packed-inside : (n : ℕ) → length ns ≤ n → (i : ℕ) → i < length ns → All (λ d. d < n) (parts (line ts alts (getD ns i no-node)))
   packed-inside n top i h =
       subst (λ l. All (λ d. d < n) (parts l)) (sym (line-is i h))
-        (all-weaker (λ d. d < i) (λ d. d < n) (λ d k. omega arith) (parts (line-at ls i)) (formed-ordered ls (P .formed) i (omega (arith, lines-long))))
+      (all-weaker (λ d. d < i) (λ d. d < n) (λ d k. omega arith) (parts (line-at ls i)) (formed-ordered ls (P .formed) i (omega (arith, lines-long))))
 
 -- the ticks are those of the lines that are kept
 module _ (F : Formula) (o : Ordered (F .lines)) (r : F .root < length (F .lines)) (to : List ℕ) (long : length to ≡ length (F .lines))
-  (t : Ticks to (reached 0 (F .lines) (F .root ∷ []))) where
-
+    (t : Ticks to (reached 0 (F .lines) (F .root ∷ []))) where
   bit : (b : Bool) → eqb (cond b 1 0) 1 ≡ b
   bit true = refl
   bit false = refl
@@ -81,10 +80,10 @@ module _ (F : Formula) (o : Ordered (F .lines)) (r : F .root < length (F .lines)
       ⊎-elim
       (λ (h : j < length to). ap (λ n. eqb n 1) (t j h) ∙ bit (kept F j))
       (λ (h : length to ≤ j). ap (λ n. eqb n 1) (getD-past to j 0 h)
-        ∙ ⊎-elim
-          (λ (k : kept F j ≡ true). absurd (let g = kept-inside j k in omega arith))
-          (λ (k : kept F j ≡ false). sym k)
-          (cases-bool (kept F j)))
+      ∙ ⊎-elim
+      (λ (k : kept F j ≡ true). absurd (let g = kept-inside j k in omega arith))
+      (λ (k : kept F j ≡ false). sym k)
+      (cases-bool (kept F j)))
       (cases-lt j (length to))
 
   pub ticks-are : is-ticked to ≡ kept F
@@ -98,12 +97,12 @@ module _ (F : Formula) (o : Ordered (F .lines)) (r : F .root < length (F .lines)
       → Compacted (is-ticked to) (F .lines) ns ts alts f ns′ ts′ alts′ to′ → Cut (prune F) ns ts alts f (getD to′ (F .root) 0) ns′ ts′ alts′
   cut-done ns ts alts f ns′ ts′ alts′ to′ c =
       let d = subst (λ (keep : ℕ → Bool). Compacted keep (F .lines) ns ts alts f ns′ ts′ alts′ to′) ticks-are c in
-      record
-      { nodes = d .nodes
-      ; terms = d .terms
-      ; alternatives = d .alternatives
-      ; used = d .used
-      ; root = d .numbered (F .root) r (kept-root F)
+      record {
+        nodes = d .nodes;
+        terms = d .terms;
+        alternatives = d .alternatives;
+        used = d .used;
+        root = d .numbered (F .root) r (kept-root F);
       }
 
 pub all-zero : (n j : ℕ) → _≡_ {A = ℕ} (getD (replicate n 0) j 0) 0

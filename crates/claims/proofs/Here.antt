@@ -38,8 +38,7 @@ pub record Over (ls : List Line) (i : ℕ) (ns : List Node) (ts : List Term) (al
   pub low-alternative : length Z ≤ alternatives-before ls i
 
 module _ (ls : List Line) (ns₀ : List Node) (ts₀ : List Term) (alts₀ : List ℕ) (B : Base ls ns₀ ts₀ alts₀) (i : ℕ) (h : i < length ls)
-  (X : List Node) (Y : List Term) (Z : List ℕ) (ns : List Node) (ts : List Term) (alts : List ℕ) (V : Over ls i ns₀ ts₀ alts₀ X Y Z ns ts alts) where
-
+    (X : List Node) (Y : List Term) (Z : List ℕ) (ns : List Node) (ts : List Term) (alts : List ℕ) (V : Over ls i ns₀ ts₀ alts₀ X Y Z ns ts alts) where
   abbrev T : ℕ
   T = terms-before ls i
 

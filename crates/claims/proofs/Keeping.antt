@@ -16,8 +16,7 @@ use Rattle.claims.proofs.Puts.{Moving, moving-low, moving-at, moving-read, mov
 
 -- a loop over the run r, from the table xs into ys, at entry k
 module _ {X : Type 0} (f : X → Bool) (g : X → X) (xs ys : List X) (r : Run) (s k w : ℕ) (m : Moving f g xs ys (r .first) s k w)
-  (past : s ≤ r .first) (within : r .first + r .count ≤ length xs) (turn : k < r .count) where
-
+    (past : s ≤ r .first) (within : r .first + r .count ≤ length xs) (turn : k < r .count) where
   inside : r .first + k < length xs
   inside = omega arith
 
@@ -78,12 +77,18 @@ module _ (E : ℕ → Outcome) (t : ℕ) (ks : List Term) (i low high : ℕ) (w 
 
   pub weighed-room : high + getD ks i d .coefficient ≤ coefficients ks
   weighed-room =
-      omega (arith, w .weight, left-is i, kept-sum-le (λ k. is-neither (tone-of E (k .node))) (λ k. k .coefficient) (take i ks),
-        sumBy-more (λ k. k .coefficient) ks i d h, sumBy-take-le (λ k. k .coefficient) ks (i + 1))
+      omega (
+        arith,
+        w .weight,
+        left-is i,
+        kept-sum-le (λ k. is-neither (tone-of E (k .node))) (λ k. k .coefficient) (take i ks),
+        sumBy-more (λ k. k .coefficient) ks i d h,
+        sumBy-take-le (λ k. k .coefficient) ks (i + 1),
+      )
 
   pub weighed-more : (low′ high′ : ℕ) → low′ ≡ low - cond (is-yes (tone-of E (getD ks i d .node))) (getD ks i d .coefficient) 0
       → high′ ≡ high + cond (is-neither (tone-of E (getD ks i d .node))) (getD ks i d .coefficient) 0 → Weighed E t ks (i + 1) low′ high′
-  weighed-more low′ high′ p q = record
-    { threshold = omega (arith, p, w .threshold, kept-sum-more (λ k. is-yes (tone-of E (k .node))) (λ k. k .coefficient) ks i d h)
-    ; weight = omega (arith, q, w .weight, left-is i, left-is (i + 1), kept-sum-more (λ k. is-neither (tone-of E (k .node))) (λ k. k .coefficient) ks i d h)
-    }
+  weighed-more low′ high′ p q = record {
+    threshold = omega (arith, p, w .threshold, kept-sum-more (λ k. is-yes (tone-of E (k .node))) (λ k. k .coefficient) ks i d h);
+    weight = omega (arith, q, w .weight, left-is i, left-is (i + 1), kept-sum-more (λ k. is-neither (tone-of E (k .node))) (λ k. k .coefficient) ks i d h);
+  }

@@ -66,8 +66,8 @@ nodes-push t a T A [] l p q =
     ap₂ (λ (u v : ℕ). node u v l ∷ []) x y
 nodes-push t a T A (x ∷ ls) l p q =
     ap (λ r. node t a x ∷ r)
-      (nodes-push (t + length (terms-in x)) (a + length (alternatives-in x)) T A ls l
-        (omega (arith, p, length-append (terms-in x) (term-table ls))) (omega (arith, q, length-append (alternatives-in x) (alternative-table ls))))
+    (nodes-push (t + length (terms-in x)) (a + length (alternatives-in x)) T A ls l
+    (omega (arith, p, length-append (terms-in x) (term-table ls))) (omega (arith, q, length-append (alternatives-in x) (alternative-table ls))))
 
 pub node-at : (t a T A : ℕ) (ls : List Line) (i : ℕ) (d : Node) → i < length ls → T ≡ t + length (term-table (take i ls)) → A ≡ a + length (alternative-table (take i ls))
     → getD (node-table t a ls) i d ≡ node T A (line-at ls i)
@@ -78,7 +78,7 @@ node-at t a T A (l ∷ ls) zero d h p q =
     ap₂ (λ (u v : ℕ). node u v l) x y
 node-at t a T A (l ∷ ls) (suc i) d h p q =
     node-at (t + length (terms-in l)) (a + length (alternatives-in l)) T A ls i d (le-of-suc-le-suc h)
-      (omega (arith, p, length-append (terms-in l) (term-table (take i ls)))) (omega (arith, q, length-append (alternatives-in l) (alternative-table (take i ls))))
+    (omega (arith, p, length-append (terms-in l) (term-table (take i ls)))) (omega (arith, q, length-append (alternatives-in l) (alternative-table (take i ls))))
 
 -- a part that is made of two
 module _ {X : Type 0} (xs : List X) (p : ℕ) (us vs : List X) (h : part xs p (length (us ++ vs)) ≡ us ++ vs) where

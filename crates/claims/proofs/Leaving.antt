@@ -27,25 +27,25 @@ module _ (E E′ : ℕ → Outcome) where
   left-alike : (ds : List ℕ) → All Alike ds → alternatives-left E ds ≡ alternatives-left E′ ds
   left-alike ds h =
       map-kept-same (λ d. E d .to) (λ d. E′ d .to) (λ d. not (is-no (tone-of E d))) (λ d. not (is-no (tone-of E′ d))) ds
-        (all-weaker Alike (λ d. (not (is-no (tone-of E d)) ≡ not (is-no (tone-of E′ d))) × (E d .to ≡ E′ d .to))
-          (λ d e. (ap (λ (o : Tone). not (is-no o)) (e .same), e .number)) ds h)
+      (all-weaker Alike (λ d. (not (is-no (tone-of E d)) ≡ not (is-no (tone-of E′ d))) × (E d .to ≡ E′ d .to))
+      (λ d e. (ap (λ (o : Tone). not (is-no o)) (e .same), e .number)) ds h)
 
   yes-alike : (ds : List ℕ) → All Alike ds → has-yes E ds ≡ has-yes E′ ds
   yes-alike ds h =
       any-same (λ d. is-yes (tone-of E d)) (λ d. is-yes (tone-of E′ d)) ds
-        (all-weaker Alike (λ d. is-yes (tone-of E d) ≡ is-yes (tone-of E′ d)) (λ d e. ap is-yes (e .same)) ds h)
+      (all-weaker Alike (λ d. is-yes (tone-of E d) ≡ is-yes (tone-of E′ d)) (λ d e. ap is-yes (e .same)) ds h)
 
   terms-alike : (ks : List Term) → All (λ k. Alike (k .node)) ks → terms-left E ks ≡ terms-left E′ ks
   terms-alike ks h =
       map-kept-same (retarget (λ j. E j .to)) (retarget (λ j. E′ j .to)) (λ k. is-neither (tone-of E (k .node))) (λ k. is-neither (tone-of E′ (k .node))) ks
-        (all-weaker (λ k. Alike (k .node))
-          (λ k. (is-neither (tone-of E (k .node)) ≡ is-neither (tone-of E′ (k .node))) × (retarget (λ j. E j .to) k ≡ retarget (λ j. E′ j .to) k))
-          (λ k e. (ap is-neither (e .same), λ i. record { coefficient = k .coefficient; node = e .number i })) ks h)
+      (all-weaker (λ k. Alike (k .node))
+      (λ k. (is-neither (tone-of E (k .node)) ≡ is-neither (tone-of E′ (k .node))) × (retarget (λ j. E j .to) k ≡ retarget (λ j. E′ j .to) k))
+      (λ k e. (ap is-neither (e .same), λ i. record { coefficient = k .coefficient; node = e .number i })) ks h)
 
   part-alike : (ks : List Term) → All (λ k. Alike (k .node)) ks → yes-part E ks ≡ yes-part E′ ks
   part-alike ks h =
       ap coefficients (kept-same (λ k. is-yes (tone-of E (k .node))) (λ k. is-yes (tone-of E′ (k .node))) ks
-        (all-weaker (λ k. Alike (k .node)) (λ k. is-yes (tone-of E (k .node)) ≡ is-yes (tone-of E′ (k .node))) (λ k e. ap is-yes (e .same)) ks h))
+      (all-weaker (λ k. Alike (k .node)) (λ k. is-yes (tone-of E (k .node)) ≡ is-yes (tone-of E′ (k .node))) (λ k e. ap is-yes (e .same)) ks h))
 
   pub leaves-alike : (l : Line) → All Alike (parts l) → leaves E l ≡ leaves E′ l
   leaves-alike (constant σ b) h = refl
@@ -146,8 +146,14 @@ module _ (E : ℕ → Outcome) where
   fewer-alternatives (both σ i j) = omega (arith, ap length (both-none σ (tone-of E i) (tone-of E j) (E i .to) (E j .to) .1))
   fewer-alternatives (non σ i) = omega (arith, ap length (non-none σ (tone-of E i) (E i .to) .1))
   fewer-alternatives (step a ms hs) =
-      omega (arith, step-sizes (has-yes E hs) a (alternatives-left E ms) (alternatives-left E hs) .1, length-append (alternatives-left E ms) (alternatives-left E hs), length-append ms hs,
-        map-few (λ d. E d .to) (λ d. not (is-no (tone-of E d))) ms, map-few (λ d. E d .to) (λ d. not (is-no (tone-of E d))) hs)
+      omega (
+        arith,
+        step-sizes (has-yes E hs) a (alternatives-left E ms) (alternatives-left E hs) .1,
+        length-append (alternatives-left E ms) (alternatives-left E hs),
+        length-append ms hs,
+        map-few (λ d. E d .to) (λ d. not (is-no (tone-of E d))) ms,
+        map-few (λ d. E d .to) (λ d. not (is-no (tone-of E d))) hs,
+      )
   fewer-alternatives (sum t ks) =
       let u = t - yes-part E ks in
       let left = terms-left E ks in

@@ -81,10 +81,10 @@ module _ {X : Type 0} where
       let rest = drop (length front) old in
       put-is p new (atop front old)
       ∙ (ap₂ (λ (a b : List X). a ++ (new ++ b)) (take-at front rest p (sym s))
-          (ap (λ n. drop n (front ++ rest)) (ap (λ n. n + length new) s)
-          ∙ (sym (drop-drop (length new) (length front) (front ++ rest))
-          ∙ (ap (drop (length new)) (drop-at front rest (length front) refl)
-          ∙ (drop-drop (length new) (length front) old ∙ ap (λ k. drop k old) (sym (length-append front new))))))
+      (ap (λ n. drop n (front ++ rest)) (ap (λ n. n + length new) s)
+      ∙ (sym (drop-drop (length new) (length front) (front ++ rest))
+      ∙ (ap (drop (length new)) (drop-at front rest (length front) refl)
+      ∙ (drop-drop (length new) (length front) old ∙ ap (λ k. drop k old) (sym (length-append front new))))))
       ∙ sym (append-assoc front new (drop (length (front ++ new)) old)))
 
   pub atop-set : (front old : List X) (y : X) → length front < length old → set (atop front old) (length front) y ≡ atop (front ++ (y ∷ [])) old
@@ -188,9 +188,9 @@ module _ {X : Type 0} (f : X → Bool) (g : X → X) (xs : List X) (p s : ℕ) w
     moving-take d y e v =
         let old = map g (kept-by f (part xs p n)) in
         let more = grows d true e in
-        record
-        { is = ap₂ (λ (l : List X) (k : ℕ). set l k y) (m .is) (m .end) ∙ (put-more s old xs y (omega (arith, few)) ∙ ap (λ l. put s l xs) (ap (λ z. old ++ (z ∷ [])) v ∙ sym more))
-        ; end = omega (arith, m .end, ap length more, length-push old (g (getD xs (p + n) d)))
+        record {
+          is = ap₂ (λ (l : List X) (k : ℕ). set l k y) (m .is) (m .end) ∙ (put-more s old xs y (omega (arith, few)) ∙ ap (λ l. put s l xs) (ap (λ z. old ++ (z ∷ [])) v ∙ sym more));
+          end = omega (arith, m .end, ap length more, length-push old (g (getD xs (p + n) d)));
         }
 
     pub moving-skip : (d : X) → f (getD xs (p + n) d) ≡ false → Moving f g xs ys p s (n + 1) w

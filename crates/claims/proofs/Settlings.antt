@@ -26,8 +26,7 @@ use Rattle.claims.proofs.Leaving.{Alike, leaves-alike, number-alike, own-leave
 
 -- a node whose parts were settled, and whose entries lie further on, can be settled
 module _ (i : ℕ) (ns : List Node) (to : List ℕ) (ts : List Term) (alts : List ℕ) (t a T A : ℕ) (led : (j : ℕ) → j < i → Led i ns to j)
-  (p : t ≤ T) (q : a ≤ A) (few-terms : length ts < 2 ^ 32) (few-alternatives : length alts < 2 ^ 32) where
-
+    (p : t ≤ T) (q : a ≤ A) (few-terms : length ts < 2 ^ 32) (few-alternatives : length alts < 2 ^ 32) where
   all-led : (ds : List ℕ) → All (λ j. j < i) ds → All (Led i ns to) ds
   all-led ds h = all-weaker (λ j. j < i) (Led i ns to) led ds h
 
@@ -42,29 +41,29 @@ module _ (i : ℕ) (ns : List Node) (to : List ℕ) (ts : List Term) (alts : Lis
   fit-node (both dist j k) b v w x y z = (led j (b .0), led k (b .1))
   fit-node (non state j) b v w x y z = led j b
   fit-node (non dist j) b v w x y z = led j b
-  fit-node (step c ms hs) b v w x y z = record
-    { past = q
-    ; next = omega arith
-    ; within = omega (arith, w, length-append ms hs)
-    ; small = few-alternatives
-    ; moves = subst (All (Led i ns to)) (sym (part-front alts A ms hs y)) (all-led ms (b .0))
-    ; heres = subst (All (Led i ns to)) (sym (part-back alts A ms hs y)) (all-led hs (b .1))
-    }
-  fit-node (sum c ks) b v w x y z = record
-    { past = p
-    ; within = v
-    ; small = few-terms
-    ; led = subst (All (λ k. Led i ns to (k .node))) (sym x) (all-weaker (λ k. k .node < i) (λ k. Led i ns to (k .node)) (λ k h. led (k .node) h) ks b)
-    ; light = subst (λ xs. coefficients xs < 2 ^ 64) (sym x) z
-    }
+  fit-node (step c ms hs) b v w x y z = record {
+    past = q;
+    next = omega arith;
+    within = omega (arith, w, length-append ms hs);
+    small = few-alternatives;
+    moves = subst (All (Led i ns to)) (sym (part-front alts A ms hs y)) (all-led ms (b .0));
+    heres = subst (All (Led i ns to)) (sym (part-back alts A ms hs y)) (all-led hs (b .1));
+  }
+  fit-node (sum c ks) b v w x y z = record {
+    past = p;
+    within = v;
+    small = few-terms;
+    led = subst (All (λ k. Led i ns to (k .node))) (sym x) (all-weaker (λ k. k .node < i) (λ k. Led i ns to (k .node)) (λ k h. led (k .node) h) ks b);
+    light = subst (λ xs. coefficients xs < 2 ^ 64) (sym x) z;
+  }
 
 pub settling-none : (ls : List Line) (ns : List Node) (ts : List Term) (alts to : List ℕ) → Settling ls ns ts alts to 0 0 0 ns ts alts to
 settling-none ls ns ts alts to = record { nodes = refl; terms = refl; alternatives = refl; numbers = refl; term = refl; alternative = refl }
 
 module _ (ls : List Line) (o : Ordered ls) (light : Light ls) (formed : (i : ℕ) → i < length ls → Below i (line-at ls i))
-  (ns₀ : List Node) (ts₀ : List Term) (alts₀ to₀ : List ℕ) (nodes₀ : node-table 0 0 ls ≡ ns₀) (terms₀ : atop (term-table ls) ts₀ ≡ ts₀) (alternatives₀ : atop (alternative-table ls) alts₀ ≡ alts₀)
-  (few-terms : length ts₀ < 2 ^ 32) (few-alternatives : length alts₀ < 2 ^ 32) (room : length ns₀ ≤ length to₀)
-  (i t a : ℕ) (ns : List Node) (ts : List Term) (alts to : List ℕ) (S : Settling ls ns₀ ts₀ alts₀ to₀ i t a ns ts alts to) (h : i < length ls) where
+    (ns₀ : List Node) (ts₀ : List Term) (alts₀ to₀ : List ℕ) (nodes₀ : node-table 0 0 ls ≡ ns₀) (terms₀ : atop (term-table ls) ts₀ ≡ ts₀) (alternatives₀ : atop (alternative-table ls) alts₀ ≡ alts₀)
+    (few-terms : length ts₀ < 2 ^ 32) (few-alternatives : length alts₀ < 2 ^ 32) (room : length ns₀ ≤ length to₀)
+    (i t a : ℕ) (ns : List Node) (ts : List Term) (alts to : List ℕ) (S : Settling ls ns₀ ts₀ alts₀ to₀ i t a ns ts alts to) (h : i < length ls) where
   abbrev O : ℕ → Outcome
   O = outcome ls
 
@@ -103,14 +102,14 @@ module _ (ls : List Line) (o : Ordered ls) (light : Light ls) (formed : (i : ℕ
   base = record { nodes = nodes₀; terms = terms₀; alternatives = alternatives₀ }
 
   over : Over ls i ns₀ ts₀ alts₀ (node-table 0 0 left) (term-table left) (alternative-table left) ns ts alts
-  over = record
-    { nodes = S .nodes
-    ; terms = S .terms
-    ; alternatives = S .alternatives
-    ; low = omega (arith, length-nodes 0 0 left, left-long)
-    ; low-term = omega (arith, t-low, S .term)
-    ; low-alternative = omega (arith, a-low, S .alternative)
-    }
+  over = record {
+    nodes = S .nodes;
+    terms = S .terms;
+    alternatives = S .alternatives;
+    low = omega (arith, length-nodes 0 0 left, left-long);
+    low-term = omega (arith, t-low, S .term);
+    low-alternative = omega (arith, a-low, S .alternative);
+  }
 
   at-line : line ts alts (getD ns i no-node) ≡ l
   at-line = line-here ls ns₀ ts₀ alts₀ base i h (node-table 0 0 left) (term-table left) (alternative-table left) ns ts alts over
@@ -144,10 +143,10 @@ module _ (ls : List Line) (o : Ordered ls) (light : Light ls) (formed : (i : ℕ
       let Y = term-table left in
       let Z = alternative-table left in
       subst (Fit i ns to ts alts t a) (sym (node-here ls ns₀ ts₀ alts₀ base i h X Y Z ns ts alts over))
-        (fit-node i ns to ts alts t a T A led t-low a-low
-          (omega (arith, terms-long ls ns₀ ts₀ alts₀ base i h X Y Z ns ts alts over)) (omega (arith, alternatives-long ls ns₀ ts₀ alts₀ base i h X Y Z ns ts alts over)) l (formed i h)
-          (terms-fit ls ns₀ ts₀ alts₀ base i h X Y Z ns ts alts over) (alternatives-fit ls ns₀ ts₀ alts₀ base i h X Y Z ns ts alts over)
-          (terms-here ls ns₀ ts₀ alts₀ base i h X Y Z ns ts alts over) (alternatives-here ls ns₀ ts₀ alts₀ base i h X Y Z ns ts alts over) (light i h))
+      (fit-node i ns to ts alts t a T A led t-low a-low
+      (omega (arith, terms-long ls ns₀ ts₀ alts₀ base i h X Y Z ns ts alts over)) (omega (arith, alternatives-long ls ns₀ ts₀ alts₀ base i h X Y Z ns ts alts over)) l (formed i h)
+      (terms-fit ls ns₀ ts₀ alts₀ base i h X Y Z ns ts alts over) (alternatives-fit ls ns₀ ts₀ alts₀ base i h X Y Z ns ts alts over)
+      (terms-here ls ns₀ ts₀ alts₀ base i h X Y Z ns ts alts over) (alternatives-here ls ns₀ ts₀ alts₀ base i h X Y Z ns ts alts over) (light i h))
 
   -- what is left of the lines before it has their tones
   alike : (j : ℕ) → j < i → Alike (glance ns to) O j
@@ -159,20 +158,20 @@ module _ (ls : List Line) (o : Ordered ls) (light : Light ls) (formed : (i : ℕ
       let at = outcome-at ls o p (omega arith) in
       let before = all-weaker (λ k. k < p) (λ k. O k .to < p) (λ k q. omega (arith, placed ls o k (omega arith) .near)) (parts (line-at ls p)) (o p (omega arith)) in
       let kept : leaves O (line-at ls p) ≡ O j .line =
-            sym (own-leaves p O (line-at ls p) before (ap (λ x. x .to) (sym at) ∙ own)) ∙ (ap (λ x. x .line) (sym at) ∙ ap (λ x. x .line) (pl .stable)) in
+      sym (own-leaves p O (line-at ls p) before (ap (λ x. x .to) (sym at) ∙ own)) ∙ (ap (λ x. x .line) (sym at) ∙ ap (λ x. x .line) (pl .stable)) in
       let there : line-at left p ≡ leaves O (line-at ls p) =
-            getD-take i (left-lines ls) p (constant state true) pi ∙ getD-map (leaves O) ls p (constant state true) (constant state true) (omega arith) in
+      getD-take i (left-lines ls) p (constant state true) pi ∙ getD-map (leaves O) ls p (constant state true) (constant state true) (omega arith) in
       let found : getD ns p no-node ≡ node (0 + length (term-table (take p left))) (0 + length (alternative-table (take p left))) (line-at left p) =
-            ap (λ xs. getD xs p no-node) (S .nodes)
-            ∙ (getD-append-left (node-table 0 0 left) (drop (length (node-table 0 0 left)) ns₀) no-node p (omega (arith, length-nodes 0 0 left, left-long))
-            ∙ node-at 0 0 (0 + length (term-table (take p left))) (0 + length (alternative-table (take p left))) left p no-node (omega (arith, left-long)) refl refl) in
-      record
-      { number = number-at j g
-      ; same =
-          ap (λ k. tone (line [] [] (getD ns k no-node))) (number-at j g)
-          ∙ (ap (λ n. tone (line [] [] n)) found
-          ∙ (tone-of-node (0 + length (term-table (take p left))) (0 + length (alternative-table (take p left))) (line-at left p)
-          ∙ ap tone (there ∙ kept)))
+      ap (λ xs. getD xs p no-node) (S .nodes)
+      ∙ (getD-append-left (node-table 0 0 left) (drop (length (node-table 0 0 left)) ns₀) no-node p (omega (arith, length-nodes 0 0 left, left-long))
+      ∙ node-at 0 0 (0 + length (term-table (take p left))) (0 + length (alternative-table (take p left))) left p no-node (omega (arith, left-long)) refl refl) in
+      record {
+        number = number-at j g;
+        same =
+            ap (λ k. tone (line [] [] (getD ns k no-node))) (number-at j g)
+            ∙ (ap (λ n. tone (line [] [] n)) found
+            ∙ (tone-of-node (0 + length (term-table (take p left))) (0 + length (alternative-table (take p left))) (line-at left p)
+            ∙ ap tone (there ∙ kept)));
       }
 
   all-alike : All (Alike (glance ns to) O) (parts l)
@@ -189,44 +188,44 @@ module _ (ls : List Line) (o : Ordered ls) (light : Light ls) (formed : (i : ℕ
       let E = glance ns to in
       let now : leaves E (line ts alts (getD ns i no-node)) ≡ leaves O l = ap (leaves E) at-line ∙ leaves-alike E O l all-alike in
       let number : getD to′ i 0 ≡ O i .to =
-            s .turned .number ∙ (ap (λ x. became i E x .to) at-line ∙ (number-alike E O i l all-alike ∙ ap (λ x. x .to) (sym (outcome-at ls o i h)))) in
+      s .turned .number ∙ (ap (λ x. became i E x .to) at-line ∙ (number-alike E O i l all-alike ∙ ap (λ x. x .to) (sym (outcome-at ls o i h)))) in
       let numbers = take i (outcomes ls) in
       let nlen : length (map (λ x. x .to) numbers) ≡ i = length-map numbers (λ x. x .to) ∙ length-take-le i (outcomes ls) (omega (arith, outcomes-long)) in
       let llen : length (node-table 0 0 left) ≡ i = length-nodes 0 0 left ∙ left-long in
       let terms-next : term-table left ++ terms-in (leaves O l) ≡ term-table (take (i + 1) (left-lines ls)) =
-            sym (table-push terms-in term-table refl (λ x xs. refl) left (leaves O l)) ∙ ap term-table (sym next) in
+      sym (table-push terms-in term-table refl (λ x xs. refl) left (leaves O l)) ∙ ap term-table (sym next) in
       let alternatives-next : alternative-table left ++ alternatives-in (leaves O l) ≡ alternative-table (take (i + 1) (left-lines ls)) =
-            sym (table-push alternatives-in alternative-table refl (λ x xs. refl) left (leaves O l)) ∙ ap alternative-table (sym next) in
-      record
-      { nodes =
-          s .nodes
-          ∙ (ap₂ (λ (xs : List Node) (n : Node). set xs i n) (S .nodes) (s .turned .is ∙ ap (node t a) now)
-          ∙ (ap (λ k. set (atop (node-table 0 0 left) ns₀) k (node t a (leaves O l))) (sym llen)
-          ∙ (atop-set (node-table 0 0 left) ns₀ (node t a (leaves O l)) (omega (arith, llen, long))
-          ∙ ap (λ xs. atop xs ns₀)
-              (sym (nodes-push 0 0 t a left (leaves O l) (omega (arith, S .term)) (omega (arith, S .alternative))) ∙ ap (node-table 0 0) (sym next)))))
-      ; terms =
-          s .turned .terms
-          ∙ (ap₂ (λ (xs : List Term) (x : Line). put t (terms-in x) xs) (S .terms) now
-          ∙ (atop-more (term-table left) (terms-in (leaves O l)) ts₀ t (S .term) ∙ ap (λ xs. atop xs ts₀) terms-next))
-      ; alternatives =
-          s .turned .alternatives
-          ∙ (ap₂ (λ (xs : List ℕ) (x : Line). put a (alternatives-in x) xs) (S .alternatives) now
-          ∙ (atop-more (alternative-table left) (alternatives-in (leaves O l)) alts₀ a (S .alternative) ∙ ap (λ xs. atop xs alts₀) alternatives-next))
-      ; numbers =
-          s .numbers
-          ∙ (ap₂ (λ (xs : List ℕ) (n : ℕ). set xs i n) (S .numbers) number
-          ∙ (ap (λ k. set (atop (map (λ x. x .to) numbers) to₀) k (O i .to)) (sym nlen)
-          ∙ (atop-set (map (λ x. x .to) numbers) to₀ (O i .to) (omega (arith, nlen, long))
-          ∙ ap (λ xs. atop xs to₀) (sym (map-more (λ x. x .to) (outcomes ls) i blank (omega (arith, outcomes-long)))))))
-      ; term =
-          s .turned .term
-          ∙ (ap₂ (λ (n : ℕ) (x : Line). n + length (terms-in x)) (S .term) now
-          ∙ (sym (length-append (term-table left) (terms-in (leaves O l))) ∙ ap length terms-next))
-      ; alternative =
-          s .turned .alternative
-          ∙ (ap₂ (λ (n : ℕ) (x : Line). n + length (alternatives-in x)) (S .alternative) now
-          ∙ (sym (length-append (alternative-table left) (alternatives-in (leaves O l))) ∙ ap length alternatives-next))
+      sym (table-push alternatives-in alternative-table refl (λ x xs. refl) left (leaves O l)) ∙ ap alternative-table (sym next) in
+      record {
+        nodes =
+            s .nodes
+            ∙ (ap₂ (λ (xs : List Node) (n : Node). set xs i n) (S .nodes) (s .turned .is ∙ ap (node t a) now)
+            ∙ (ap (λ k. set (atop (node-table 0 0 left) ns₀) k (node t a (leaves O l))) (sym llen)
+            ∙ (atop-set (node-table 0 0 left) ns₀ (node t a (leaves O l)) (omega (arith, llen, long))
+            ∙ ap (λ xs. atop xs ns₀)
+            (sym (nodes-push 0 0 t a left (leaves O l) (omega (arith, S .term)) (omega (arith, S .alternative))) ∙ ap (node-table 0 0) (sym next)))));
+        terms =
+            s .turned .terms
+            ∙ (ap₂ (λ (xs : List Term) (x : Line). put t (terms-in x) xs) (S .terms) now
+            ∙ (atop-more (term-table left) (terms-in (leaves O l)) ts₀ t (S .term) ∙ ap (λ xs. atop xs ts₀) terms-next));
+        alternatives =
+            s .turned .alternatives
+            ∙ (ap₂ (λ (xs : List ℕ) (x : Line). put a (alternatives-in x) xs) (S .alternatives) now
+            ∙ (atop-more (alternative-table left) (alternatives-in (leaves O l)) alts₀ a (S .alternative) ∙ ap (λ xs. atop xs alts₀) alternatives-next));
+        numbers =
+            s .numbers
+            ∙ (ap₂ (λ (xs : List ℕ) (n : ℕ). set xs i n) (S .numbers) number
+            ∙ (ap (λ k. set (atop (map (λ x. x .to) numbers) to₀) k (O i .to)) (sym nlen)
+            ∙ (atop-set (map (λ x. x .to) numbers) to₀ (O i .to) (omega (arith, nlen, long))
+            ∙ ap (λ xs. atop xs to₀) (sym (map-more (λ x. x .to) (outcomes ls) i blank (omega (arith, outcomes-long)))))));
+        term =
+            s .turned .term
+            ∙ (ap₂ (λ (n : ℕ) (x : Line). n + length (terms-in x)) (S .term) now
+            ∙ (sym (length-append (term-table left) (terms-in (leaves O l))) ∙ ap length terms-next));
+        alternative =
+            s .turned .alternative
+            ∙ (ap₂ (λ (n : ℕ) (x : Line). n + length (alternatives-in x)) (S .alternative) now
+            ∙ (sym (length-append (alternative-table left) (alternatives-in (leaves O l))) ∙ ap length alternatives-next));
       }
 
 pub settled : (ls : List Line) (ns : List Node) (ts : List Term) (alts to : List ℕ) (i t a : ℕ) (ns′ : List Node) (ts′ : List Term) (alts′ to′ : List ℕ)
@@ -236,12 +235,12 @@ settled ls ns ts alts to i t a ns′ ts′ alts′ to′ S long h =
     let all : take i (left-lines ls) ≡ left-lines ls = take-all i (left-lines ls) (omega (arith, length-map ls leave)) in
     let same : take i (outcomes ls) ≡ outcomes ls = take-all i (outcomes ls) (omega (arith, grown-length blank became [] ls)) in
     let full : length ns ≤ length (node-table 0 0 (left-lines ls)) = omega (arith, length-nodes 0 0 (left-lines ls), length-map ls leave) in
-    record
-    { nodes =
-        S .nodes
-        ∙ (ap (λ xs. atop (node-table 0 0 xs) ns) all
-        ∙ (ap (λ xs. node-table 0 0 (left-lines ls) ++ xs) (drop-all (length (node-table 0 0 (left-lines ls))) ns full) ∙ append-nil (node-table 0 0 (left-lines ls))))
-    ; terms = S .terms ∙ ap (λ xs. atop (term-table xs) ts) all
-    ; alternatives = S .alternatives ∙ ap (λ xs. atop (alternative-table xs) alts) all
-    ; numbers = S .numbers ∙ ap (λ xs. atop (map (λ x. x .to) xs) to) same
+    record {
+      nodes =
+          S .nodes
+          ∙ (ap (λ xs. atop (node-table 0 0 xs) ns) all
+          ∙ (ap (λ xs. node-table 0 0 (left-lines ls) ++ xs) (drop-all (length (node-table 0 0 (left-lines ls))) ns full) ∙ append-nil (node-table 0 0 (left-lines ls))));
+      terms = S .terms ∙ ap (λ xs. atop (term-table xs) ts) all;
+      alternatives = S .alternatives ∙ ap (λ xs. atop (alternative-table xs) alts) all;
+      numbers = S .numbers ∙ ap (λ xs. atop (map (λ x. x .to) xs) to) same;
     }

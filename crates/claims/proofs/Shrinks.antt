@@ -49,9 +49,9 @@ lines-laid L ts alts =
     let long = length-map ns (line ts′ alts′) ∙ length-nodes 0 0 L in
     let base : Base L ns ts′ alts′ = record { nodes = refl; terms = atop-twice (term-table L) ts; alternatives = atop-twice (alternative-table L) alts } in
     ext-getD (constant state true) (lines ns ts′ alts′) L long (λ i h.
-      getD-map (line ts′ alts′) ns i no-node (constant state true) (omega (arith, length-map ns (line ts′ alts′)))
-      ∙ line-here L ns ts′ alts′ base i (omega (arith, long)) [] [] [] ns ts′ alts′
-        (record { nodes = refl; terms = refl; alternatives = refl; low = omega arith; low-term = omega arith; low-alternative = omega arith }))
+    getD-map (line ts′ alts′) ns i no-node (constant state true) (omega (arith, length-map ns (line ts′ alts′)))
+    ∙ line-here L ns ts′ alts′ base i (omega (arith, long)) [] [] [] ns ts′ alts′
+    (record { nodes = refl; terms = refl; alternatives = refl; low = omega arith; low-term = omega arith; low-alternative = omega arith }))
 
 module _ (ls : List Line) (formed : Formed ls) where
   o : Ordered ls
@@ -62,24 +62,24 @@ module _ (ls : List Line) (formed : Formed ls) where
       let O = outcome ls in
       let g : i < length ls = omega (arith, length-map ls (leaves O)) in
       subst (Below i) (sym (getD-map (leaves O) ls i (constant state true) (constant state true) g))
-        (parts-below i (leaves O (line-at ls i))
-          (leaves-parts O (λ j. j < i) (line-at ls i)
-            (all-weaker (λ j. j < i) (λ j. O j .to < i) (λ j k. omega (arith, placed ls o j (omega arith) .near)) (parts (line-at ls i)) (o i g))))
+      (parts-below i (leaves O (line-at ls i))
+      (leaves-parts O (λ j. j < i) (line-at ls i)
+      (all-weaker (λ j. j < i) (λ j. O j .to < i) (λ j k. omega (arith, placed ls o j (omega arith) .near)) (parts (line-at ls i)) (o i g))))
 
   module _ (ts : List Term) (alts to : List ℕ) (ns′ : List Node) (ts′ : List Term) (alts′ to′ : List ℕ) (S : Settled ls ts alts to ns′ ts′ alts′ to′) where
     pub lines-left : lines ns′ ts′ alts′ ≡ left-lines ls
     lines-left = (λ i. lines (S .nodes i) (S .terms i) (S .alternatives i)) ∙ lines-laid (left-lines ls) ts alts
 
     pub packed-left : length ts′ < 2 ^ 32 → length alts′ < 2 ^ 32 → Packed ns′ ts′ alts′
-    packed-left p q = record
-      { nodes = ap (node-table 0 0) lines-left ∙ sym (S .nodes)
-      ; terms = ap₂ (λ (xs : List Line) (us : List Term). atop (term-table xs) us) lines-left (S .terms) ∙ (atop-twice (term-table (left-lines ls)) ts ∙ sym (S .terms))
-      ; alternatives =
-          ap₂ (λ (xs : List Line) (us : List ℕ). atop (alternative-table xs) us) lines-left (S .alternatives) ∙ (atop-twice (alternative-table (left-lines ls)) alts ∙ sym (S .alternatives))
-      ; formed = subst Formed (sym lines-left) left-formed
-      ; few-terms = p
-      ; few-alternatives = q
-      }
+    packed-left p q = record {
+      nodes = ap (node-table 0 0) lines-left ∙ sym (S .nodes);
+      terms = ap₂ (λ (xs : List Line) (us : List Term). atop (term-table xs) us) lines-left (S .terms) ∙ (atop-twice (term-table (left-lines ls)) ts ∙ sym (S .terms));
+      alternatives =
+          ap₂ (λ (xs : List Line) (us : List ℕ). atop (alternative-table xs) us) lines-left (S .alternatives) ∙ (atop-twice (alternative-table (left-lines ls)) alts ∙ sym (S .alternatives));
+      formed = subst Formed (sym lines-left) left-formed;
+      few-terms = p;
+      few-alternatives = q;
+    }
 
     module _ (root : ℕ) (h : root < length ls) where
       pub root-is : getD to′ root 0 ≡ outcome ls root .to
@@ -106,24 +106,26 @@ shrunk G ns ns₁ ns₂ ns₃ ts ts₁ ts₂ ts₃ alts alts₁ alts₂ alts₃ 
     let count : f .nodes ≡ length (node-table 0 0 (G .lines)) = ap (λ (u : Fills). u .nodes) (c .used) ∙ sym (length-nodes 0 0 (G .lines)) in
     let terms : f .terms ≡ length (term-table (G .lines)) = ap (λ (u : Fills). u .terms) (c .used) in
     let alternatives : f .alternatives ≡ length (alternative-table (G .lines)) = ap (λ (u : Fills). u .alternatives) (c .used) in
-    record
-    { nodes = padded-is ns₂ ns₃ (node-table 0 0 (G .lines)) ns₁ blank-node (f .nodes) (c .nodes) count x n ∙ ap (λ m. padded m blank-node (node-table 0 0 (G .lines))) n′
-    ; terms = padded-is ts₂ ts₃ (term-table (G .lines)) ts₁ blank-term (f .terms) (c .terms) terms y t ∙ ap (λ m. padded m blank-term (term-table (G .lines))) t′
-    ; alternatives = padded-is alts₂ alts₃ (alternative-table (G .lines)) alts₁ 0 (f .alternatives) (c .alternatives) alternatives z a ∙ ap (λ m. padded m 0 (alternative-table (G .lines))) a′
-    ; numbers = w ∙ ap (λ m. replicate (m - 0) 0) l
-    ; used = c .used
-    ; root = c .root
-    ; fits =
-        (omega (arith, count, atop-fits ns₂ (node-table 0 0 (G .lines)) ns₁ (c .nodes) n),
-         omega (arith, terms, atop-fits ts₂ (term-table (G .lines)) ts₁ (c .terms) t),
-         omega (arith, alternatives, atop-fits alts₂ (alternative-table (G .lines)) alts₁ (c .alternatives) a))
+    record {
+      nodes = padded-is ns₂ ns₃ (node-table 0 0 (G .lines)) ns₁ blank-node (f .nodes) (c .nodes) count x n ∙ ap (λ m. padded m blank-node (node-table 0 0 (G .lines))) n′;
+      terms = padded-is ts₂ ts₃ (term-table (G .lines)) ts₁ blank-term (f .terms) (c .terms) terms y t ∙ ap (λ m. padded m blank-term (term-table (G .lines))) t′;
+      alternatives = padded-is alts₂ alts₃ (alternative-table (G .lines)) alts₁ 0 (f .alternatives) (c .alternatives) alternatives z a ∙ ap (λ m. padded m 0 (alternative-table (G .lines))) a′;
+      numbers = w ∙ ap (λ m. replicate (m - 0) 0) l;
+      used = c .used;
+      root = c .root;
+      fits = (
+        omega (arith, count, atop-fits ns₂ (node-table 0 0 (G .lines)) ns₁ (c .nodes) n),
+        omega (arith, terms, atop-fits ts₂ (term-table (G .lines)) ts₁ (c .terms) t),
+        omega (arith, alternatives, atop-fits alts₂ (alternative-table (G .lines)) alts₁ (c .alternatives) a),
+      );
     }
 
 -- what is used of the tables is there
 pub cut-fits : (G : Formula) (ns ns′ : List Node) (ts ts′ : List Term) (alts alts′ : List ℕ) (f : Fills) (r : ℕ) → Cut G ns ts alts f r ns′ ts′ alts′
     → length ns′ ≡ length ns → length ts′ ≡ length ts → length alts′ ≡ length alts
     → (f .nodes ≤ length ns′) × (f .terms ≤ length ts′) × (f .alternatives ≤ length alts′)
-cut-fits G ns ns′ ts ts′ alts alts′ f r c n t a =
-    (omega (arith, ap (λ (u : Fills). u .nodes) (c .used), length-nodes 0 0 (G .lines), atop-fits ns′ (node-table 0 0 (G .lines)) ns (c .nodes) n),
-     omega (arith, ap (λ (u : Fills). u .terms) (c .used), atop-fits ts′ (term-table (G .lines)) ts (c .terms) t),
-     omega (arith, ap (λ (u : Fills). u .alternatives) (c .used), atop-fits alts′ (alternative-table (G .lines)) alts (c .alternatives) a))
+cut-fits G ns ns′ ts ts′ alts alts′ f r c n t a = (
+  omega (arith, ap (λ (u : Fills). u .nodes) (c .used), length-nodes 0 0 (G .lines), atop-fits ns′ (node-table 0 0 (G .lines)) ns (c .nodes) n),
+  omega (arith, ap (λ (u : Fills). u .terms) (c .used), atop-fits ts′ (term-table (G .lines)) ts (c .terms) t),
+  omega (arith, ap (λ (u : Fills). u .alternatives) (c .used), atop-fits alts′ (alternative-table (G .lines)) alts (c .alternatives) a),
+)

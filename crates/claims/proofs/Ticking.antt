@@ -58,12 +58,15 @@ module _ (ls : List Line) (r : List ℕ) (i : ℕ) (h : i < length ls) where
     where
       ps : List ℕ
       ps = parts (line-at ls i)
+
       mark : (b : Bool) → member i later ≡ b → eqb (getD m i 0) 1 ≡ b
       mark true q = eq-eqb (getD m i 0) 1 (k i (omega arith) ∙ ap (λ (x : Bool). cond x 1 0) q)
       mark false q = ne-eqb (getD m i 0) 1 (λ z. let w = k i (omega arith) ∙ ap (λ (x : Bool). cond x 1 0) q in omega arith)
+
       pick : (b c : Bool) → _≡_ {A = ℕ} (cond b 1 (cond c 1 0)) (cond (b || c) 1 0)
       pick true c = refl
       pick false c = refl
+
       go : (b : Bool) → member i later ≡ b → Ticks m′ (reached i (drop i ls) r)
       go true q j l =
           let f : m′ ≡ ticked m ps = e ∙ ap (λ (x : Bool). cond x (ticked m ps) m) (mark true q) in

@@ -28,10 +28,10 @@ module _ (a s m e : ℕ) (ms hs : List ℕ) (p : m ≡ s + length ms) (q : e ≡
   plain =
       let x : m - s ≡ length ms = omega arith in
       let y : e - m ≡ length hs = omega arith in
-      record
-      { is = λ i. State (sn.the-variants.Step a (run s (x i)) (run (p i) (y i)))
-      ; end = omega (arith, length-append ms hs)
-      ; all = refl
+      record {
+        is = λ i. State (sn.the-variants.Step a (run s (x i)) (run (p i) (y i)));
+        end = omega (arith, length-append ms hs);
+        all = refl;
       }
 
 pub stepped : (a s m e : ℕ) (ms hs : List ℕ) (b : Bool) → m ≡ s + length ms → e ≡ m + length hs → (e ≡ s → ⊥) → b ≡ false
@@ -43,8 +43,7 @@ stepped a s m e (x ∷ ms) hs false p q n f = plain a s m e (x ∷ ms) hs p q
 
 -- what is left of the alternatives for moves is moved first, then that of those for here
 module _ (L : List ℕ → List ℕ) (xs ys : List ℕ) (mv h : Run) (s : ℕ) (short : length (L (entries xs mv)) ≤ mv .count) (past : s ≤ mv .first) (next : mv .first + mv .count ≤ h .first)
-  (within : h .first + h .count ≤ length xs) (moved : ys ≡ put s (L (entries xs mv)) xs) where
-
+    (within : h .first + h .count ≤ length xs) (moved : ys ≡ put s (L (entries xs mv)) xs) where
   low : s ≤ length xs
   low = omega arith
 

@@ -32,23 +32,23 @@ pub record Bench : Type 0 where
   pub map : List ℕ
 
 abbrev pub bench : Claim → List Node → List Term → List ℕ → List ℕ → Bench
-bench c ns ts alts map = record
-  { fills = c .fills
-  ; root = c .root
-  ; mass = c .mass
-  ; shared = c .shared
-  ; nodes = ns
-  ; terms = ts
-  ; alternatives = alts
-  ; map = map
-  }
+bench c ns ts alts map = record {
+  fills = c .fills;
+  root = c .root;
+  mass = c .mass;
+  shared = c .shared;
+  nodes = ns;
+  terms = ts;
+  alternatives = alts;
+  map = map;
+}
 
 -- the formula of the claim
 abbrev pub formula-on : Bench → Formula
-formula-on b = record
-  { lines = lines (take (b .fills .nodes) (b .nodes)) (take (b .fills .terms) (b .terms)) (take (b .fills .alternatives) (b .alternatives))
-  ; root = b .root
-  }
+formula-on b = record {
+  lines = lines (take (b .fills .nodes) (b .nodes)) (take (b .fills .terms) (b .terms)) (take (b .fills .alternatives) (b .alternatives));
+  root = b .root;
+}
 
 abbrev pub blank-node : Node
 blank-node = State sn.the-variants.Yes
@@ -66,16 +66,16 @@ renewed n blank new old = padded n blank new ++ drop n old
 
 -- the claim with another formula in its tables, and the map cleared
 abbrev pub taken-up : Formula → Bench → Bench
-taken-up G b = record
-  { fills = fills (G .lines)
-  ; root = G .root
-  ; mass = b .mass
-  ; shared = b .shared
-  ; nodes = renewed (b .fills .nodes) blank-node (node-table 0 0 (G .lines)) (b .nodes)
-  ; terms = renewed (b .fills .terms) blank-term (term-table (G .lines)) (b .terms)
-  ; alternatives = renewed (b .fills .alternatives) 0 (alternative-table (G .lines)) (b .alternatives)
-  ; map = renewed (b .fills .nodes) 0 [] (b .map)
-  }
+taken-up G b = record {
+  fills = fills (G .lines);
+  root = G .root;
+  mass = b .mass;
+  shared = b .shared;
+  nodes = renewed (b .fills .nodes) blank-node (node-table 0 0 (G .lines)) (b .nodes);
+  terms = renewed (b .fills .terms) blank-term (term-table (G .lines)) (b .terms);
+  alternatives = renewed (b .fills .alternatives) 0 (alternative-table (G .lines)) (b .alternatives);
+  map = renewed (b .fills .nodes) 0 [] (b .map);
+}
 
 -- the answer of simplify, and what is on the bench then: a refusal changes nothing
 pub record Done : Type 0 where

@@ -90,11 +90,22 @@ fn move_state(node: StateNode, start: u32, alternatives: &mut [u32], numbers: &[
             node: StateNode::Not(numbers[a as usize]),
             end: start,
         },
-        StateNode::Step { action, moves, heres } => move_step(action, moves, heres, start, alternatives, numbers),
+        StateNode::Step {
+            action,
+            moves,
+            heres,
+        } => move_step(action, moves, heres, start, alternatives, numbers),
     }
 }
 
-fn move_step(action: u32, moves: Run, heres: Run, start: u32, alternatives: &mut [u32], numbers: &[u32]) -> StateMove
+fn move_step(
+    action: u32,
+    moves: Run,
+    heres: Run,
+    start: u32,
+    alternatives: &mut [u32],
+    numbers: &[u32],
+) -> StateMove
     requires { ⌜ Near-step (length (now numbers)) (now alternatives) start moves heres ⌝ }
     ensures node { λ r. ⌜ Node.State (r .node) ≡ node-of 0 start (renumber (new-number (now (numbers .entry))) (step action (entries (now (alternatives .entry)) moves) (entries (now (alternatives .entry)) heres))) ⌝ }
     ensures end { λ r. ⌜ r .end ≡ start + length (alternatives-in (renumber (new-number (now (numbers .entry))) (step action (entries (now (alternatives .entry)) moves) (entries (now (alternatives .entry)) heres)))) ⌝ }
@@ -104,8 +115,14 @@ fn move_step(action: u32, moves: Run, heres: Run, start: u32, alternatives: &mut
     let end = move_alternatives(alternatives, heres, middle, numbers);
     let node = StateNode::Step {
         action,
-        moves: Run { first: start, count: moves.count },
-        heres: Run { first: middle, count: heres.count },
+        moves: Run {
+            first: start,
+            count: moves.count,
+        },
+        heres: Run {
+            first: middle,
+            count: heres.count,
+        },
     };
     StateMove { node, end }
 }
@@ -127,7 +144,10 @@ fn move_dist(node: DistNode, start: u32, terms: &mut [Term], numbers: &[u32]) ->
             node: DistNode::Not(numbers[a as usize]),
             end: start,
         },
-        DistNode::Sum { threshold, terms: run } => move_sum(threshold, run, start, terms, numbers),
+        DistNode::Sum {
+            threshold,
+            terms: run,
+        } => move_sum(threshold, run, start, terms, numbers),
     }
 }
 
@@ -140,7 +160,10 @@ fn move_sum(threshold: u64, run: Run, start: u32, terms: &mut [Term], numbers: &
     let end = move_terms(terms, run, start, numbers);
     let node = DistNode::Sum {
         threshold,
-        terms: Run { first: start, count: run.count },
+        terms: Run {
+            first: start,
+            count: run.count,
+        },
     };
     DistMove { node, end }
 }
@@ -152,24 +175,46 @@ pub(crate) struct Move {
     pub alternative: u32,
 }
 
-fn move_node(node: Node, term: u32, alternative: u32, terms: &mut [Term], alternatives: &mut [u32], numbers: &[u32]) -> Move
+fn move_node(
+    node: Node,
+    term: u32,
+    alternative: u32,
+    terms: &mut [Term],
+    alternatives: &mut [u32],
+    numbers: &[u32],
+) -> Move
     requires { ⌜ Near (length (now numbers)) (now terms) (now alternatives) term alternative node ⌝ }
     ensures { λ r. ⌜ Moved-as (new-number (now (numbers .entry))) (line (now (terms .entry)) (now (alternatives .entry)) node) term alternative (now (terms .entry)) (now (alternatives .entry)) (r .node) (r .term) (r .alternative) (now (terms .exit)) (now (alternatives .exit)) ⌝ }
 {
     match node {
         Node::State(s) => {
             let moved = move_state(s, alternative, alternatives, numbers);
-            Move { node: Node::State(moved.node), term, alternative: moved.end }
+            Move {
+                node: Node::State(moved.node),
+                term,
+                alternative: moved.end,
+            }
         }
         Node::Dist(d) => {
             let moved = move_dist(d, term, terms, numbers);
-            Move { node: Node::Dist(moved.node), term: moved.end, alternative }
+            Move {
+                node: Node::Dist(moved.node),
+                term: moved.end,
+                alternative,
+            }
         }
     }
 }
 
 // Moves node `i` to the end of what is used, if it is ticked, and notes its new number.
-fn compact_at(i: usize, used: Fills, nodes: &mut [Node], terms: &mut [Term], alternatives: &mut [u32], map: &mut [u32]) -> Fills
+fn compact_at(
+    i: usize,
+    used: Fills,
+    nodes: &mut [Node],
+    terms: &mut [Term],
+    alternatives: &mut [u32],
+    map: &mut [u32],
+) -> Fills
     requires node { ⌜ i < length (now nodes) ⌝ }
     requires map { ⌜ i < length (now map) ⌝ }
     requires low { ⌜ used .nodes ≤ i ⌝ }
@@ -181,7 +226,14 @@ fn compact_at(i: usize, used: Fills, nodes: &mut [Node], terms: &mut [Term], alt
     if map[i] != TICK {
         return used;
     }
-    let moved = move_node(nodes[i], used.terms, used.alternatives, terms, alternatives, map);
+    let moved = move_node(
+        nodes[i],
+        used.terms,
+        used.alternatives,
+        terms,
+        alternatives,
+        map,
+    );
     nodes[used.nodes as usize] = moved.node;
     map[i] = used.nodes;
     Fills {
@@ -192,14 +244,23 @@ fn compact_at(i: usize, used: Fills, nodes: &mut [Node], terms: &mut [Term], alt
 }
 
 // Moves all nodes that are ticked to the front, and says what is used then.
-pub(crate) fn compact(nodes: &mut [Node], terms: &mut [Term], alternatives: &mut [u32], map: &mut [u32]) -> Fills
+pub(crate) fn compact(
+    nodes: &mut [Node],
+    terms: &mut [Term],
+    alternatives: &mut [u32],
+    map: &mut [u32],
+) -> Fills
     requires packed { ⌜ Packed (now nodes) (now terms) (now alternatives) ⌝ }
     requires room { ⌜ length (now nodes) ≤ length (now map) ⌝ }
     requires few { ⌜ length (now nodes) < 2 ^ 32 ⌝ }
     requires closed { ⌜ ((i : ℕ) → i < length (now nodes) → is-ticked (now map) i ≡ true → All (λ j. is-ticked (now map) j ≡ true) (parts (line-at (lines (now nodes) (now terms) (now alternatives)) i))) ⌝ }
     ensures { λ r. ⌜ Compacted (is-ticked (now (map .entry))) (lines (now (nodes .entry)) (now (terms .entry)) (now (alternatives .entry))) (now (nodes .entry)) (now (terms .entry)) (now (alternatives .entry)) r (now (nodes .exit)) (now (terms .exit)) (now (alternatives .exit)) (now (map .exit)) ⌝ }
 {
-    let mut used = Fills { nodes: 0, terms: 0, alternatives: 0 };
+    let mut used = Fills {
+        nodes: 0,
+        terms: 0,
+        alternatives: 0,
+    };
     for i in 0..nodes.len() {
         used = compact_at(i, used, nodes, terms, alternatives, map);
     }

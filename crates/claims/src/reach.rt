@@ -70,7 +70,11 @@ fn tick_state(node: StateNode, alternatives: &[u32], ticks: &mut [u32])
         StateNode::Not(a) => {
             ticks[a as usize] = TICK;
         }
-        StateNode::Step { action: _, moves, heres } => {
+        StateNode::Step {
+            action: _,
+            moves,
+            heres,
+        } => {
             tick_run(moves, alternatives, ticks);
             tick_run(heres, alternatives, ticks);
         }
@@ -92,7 +96,10 @@ fn tick_dist(node: DistNode, terms: &[Term], ticks: &mut [u32])
         DistNode::Not(a) => {
             ticks[a as usize] = TICK;
         }
-        DistNode::Sum { threshold: _, terms: run } => {
+        DistNode::Sum {
+            threshold: _,
+            terms: run,
+        } => {
             tick_sum(run, terms, ticks);
         }
     }
@@ -123,7 +130,13 @@ fn reach_at(i: usize, nodes: &[Node], terms: &[Term], alternatives: &[u32], tick
 }
 
 // Ticks what the root reaches, from the last node to the first.
-pub(crate) fn reach(root: u32, nodes: &[Node], terms: &[Term], alternatives: &[u32], ticks: &mut [u32])
+pub(crate) fn reach(
+    root: u32,
+    nodes: &[Node],
+    terms: &[Term],
+    alternatives: &[u32],
+    ticks: &mut [u32],
+)
     requires root { ⌜ root < length (now ticks) ⌝ }
     requires long { ⌜ length (now ticks) ≡ length (now nodes) ⌝ }
     requires blank { ⌜ ((j : ℕ) → getD (now ticks) j 0 ≡ 0) ⌝ }

@@ -29,7 +29,13 @@ pub(crate) struct Standing {
 }
 
 // Drops the nodes that the root does not reach.
-fn cut(root: u32, nodes: &mut [Node], terms: &mut [Term], alternatives: &mut [u32], map: &mut [u32]) -> Standing
+fn cut(
+    root: u32,
+    nodes: &mut [Node],
+    terms: &mut [Term],
+    alternatives: &mut [u32],
+    map: &mut [u32],
+) -> Standing
     requires packed { ⌜ Packed (now nodes) (now terms) (now alternatives) ⌝ }
     requires long { ⌜ length (now map) ≡ length (now nodes) ⌝ }
     requires few { ⌜ length (now nodes) < 2 ^ 32 ⌝ }
@@ -39,11 +45,20 @@ fn cut(root: u32, nodes: &mut [Node], terms: &mut [Term], alternatives: &mut [u3
     blank(map, 0, 0);
     reach(root, nodes, terms, alternatives, map);
     let used = compact(nodes, terms, alternatives, map);
-    Standing { used, root: map[root as usize] }
+    Standing {
+        used,
+        root: map[root as usize],
+    }
 }
 
 // Blanks what is not used, and clears the map.
-fn tidy(used: Fills, nodes: &mut [Node], terms: &mut [Term], alternatives: &mut [u32], map: &mut [u32])
+fn tidy(
+    used: Fills,
+    nodes: &mut [Node],
+    terms: &mut [Term],
+    alternatives: &mut [u32],
+    map: &mut [u32],
+)
     requires nodes { ⌜ used .nodes ≤ length (now nodes) ⌝ }
     requires terms { ⌜ used .terms ≤ length (now terms) ⌝ }
     requires alternatives { ⌜ used .alternatives ≤ length (now alternatives) ⌝ }
@@ -53,13 +68,26 @@ fn tidy(used: Fills, nodes: &mut [Node], terms: &mut [Term], alternatives: &mut 
     ensures map { λ _. ⌜ now (map .exit) ≡ replicate (length (now (map .entry)) - 0) 0 ⌝ }
 {
     blank(nodes, used.nodes as usize, Node::State(StateNode::Yes));
-    blank(terms, used.terms as usize, Term { coefficient: 0, node: 0 });
+    blank(
+        terms,
+        used.terms as usize,
+        Term {
+            coefficient: 0,
+            node: 0,
+        },
+    );
     blank(alternatives, used.alternatives as usize, 0);
     blank(map, 0, 0);
 }
 
 // Simplifies the formula that fills these tables. The map has an entry for each node.
-fn shrink(root: u32, nodes: &mut [Node], terms: &mut [Term], alternatives: &mut [u32], map: &mut [u32]) -> Standing
+fn shrink(
+    root: u32,
+    nodes: &mut [Node],
+    terms: &mut [Term],
+    alternatives: &mut [u32],
+    map: &mut [u32],
+) -> Standing
     requires packed { ⌜ Packed (now nodes) (now terms) (now alternatives) ⌝ }
     requires light { ⌜ Light (lines (now nodes) (now terms) (now alternatives)) ⌝ }
     requires long { ⌜ length (now map) ≡ length (now nodes) ⌝ }
@@ -75,7 +103,14 @@ fn shrink(root: u32, nodes: &mut [Node], terms: &mut [Term], alternatives: &mut 
 }
 
 // Simplifies the formula of these fills and this root, which stands at the front of the tables.
-fn shrink_front(fills: Fills, root: u32, nodes: &mut [Node], terms: &mut [Term], alternatives: &mut [u32], map: &mut [u32]) -> Standing
+fn shrink_front(
+    fills: Fills,
+    root: u32,
+    nodes: &mut [Node],
+    terms: &mut [Term],
+    alternatives: &mut [u32],
+    map: &mut [u32],
+) -> Standing
     requires ready { ⌜ Ready-to-shrink fills root (now nodes) (now terms) (now alternatives) ⌝ }
     requires room { ⌜ fills .nodes ≤ length (now map) ⌝ }
     ensures { λ r. ⌜ Renewed (simplify (record { lines = lines (take (fills .nodes) (now (nodes .entry))) (take (fills .terms) (now (terms .entry))) (take (fills .alternatives) (now (alternatives .entry))); root = root })) fills (now (nodes .entry)) (now (terms .entry)) (now (alternatives .entry)) (now (map .entry)) (r .used) (r .root) (now (nodes .exit)) (now (terms .exit)) (now (alternatives .exit)) (now (map .exit)) ⌝ }
@@ -92,7 +127,13 @@ fn shrink_front(fills: Fills, root: u32, nodes: &mut [Node], terms: &mut [Term],
 
 // Simplifies a claim in its own tables, and says how much of each table its formula uses then.
 // The map needs an entry for each node, and is cleared. A refusal changes nothing.
-pub fn simplify(claim: &mut Claim, nodes: &mut [Node], terms: &mut [Term], alternatives: &mut [u32], map: &mut [u32]) -> Result<Fills, Refusal>
+pub fn simplify(
+    claim: &mut Claim,
+    nodes: &mut [Node],
+    terms: &mut [Term],
+    alternatives: &mut [u32],
+    map: &mut [u32],
+) -> Result<Fills, Refusal>
     ensures { λ r. ⌜ done r (bench (now (claim .exit)) (now (nodes .exit)) (now (terms .exit)) (now (alternatives .exit)) (now (map .exit))) ≡ simplified (bench (now (claim .entry)) (now (nodes .entry)) (now (terms .entry)) (now (alternatives .entry)) (now (map .entry))) ⌝ }
 {
     let fills = claim.fills();

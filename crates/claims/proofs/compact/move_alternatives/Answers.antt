@@ -18,20 +18,45 @@ index-numbers-d c = entry-at (λ _. true) (new-number (c .args .numbers .now)) (
     (c .pre .past) (c .pre .within) (c .loop-k-test .taken) (λ d. d < length (c .args .numbers .now)) 0 (c .pre .below)
 
 pub index-alternatives-end : need.index-alternatives-end
-index-alternatives-end c = omega (arith, c .pre .small, c .pre .within, c .loop-k-test .taken, c .loop-k .kept .alternatives, end-low (λ _. true) (new-number (c .args .numbers .now)) (c .args .alternatives .now) (c .loop-k .alternatives) (c .args .run) (c .args .start) (c .loop-k .k) (c .loop-k .end) (c .loop-k .inv)
-    (c .pre .past) (c .pre .within) (c .loop-k-test .taken))
+index-alternatives-end c = omega (
+  arith,
+  c .pre .small,
+  c .pre .within,
+  c .loop-k-test .taken,
+  c .loop-k .kept .alternatives,
+  end-low (λ _. true) (new-number (c .args .numbers .now)) (c .args .alternatives .now) (c .loop-k .alternatives) (c .args .run) (c .args .start) (c .loop-k .k) (c .loop-k .end) (c .loop-k .inv)
+      (c .pre .past) (c .pre .within) (c .loop-k-test .taken),
+)
 
 pub offset-alternatives-end : need.offset-alternatives-end
-offset-alternatives-end c = omega (arith, c .pre .small, c .pre .within, c .loop-k-test .taken, end-low (λ _. true) (new-number (c .args .numbers .now)) (c .args .alternatives .now) (c .loop-k .alternatives) (c .args .run) (c .args .start) (c .loop-k .k) (c .loop-k .end) (c .loop-k .inv)
-    (c .pre .past) (c .pre .within) (c .loop-k-test .taken))
+offset-alternatives-end c = omega (
+  arith,
+  c .pre .small,
+  c .pre .within,
+  c .loop-k-test .taken,
+  end-low (λ _. true) (new-number (c .args .numbers .now)) (c .args .alternatives .now) (c .loop-k .alternatives) (c .args .run) (c .args .start) (c .loop-k .k) (c .loop-k .end) (c .loop-k .inv)
+      (c .pre .past) (c .pre .within) (c .loop-k-test .taken),
+)
 
 pub cast-alternatives-in-loop-k : need.cast-alternatives-in-loop-k
-cast-alternatives-in-loop-k c = omega (arith, c .pre .small, c .pre .within, c .loop-k-test .taken, end-low (λ _. true) (new-number (c .args .numbers .now)) (c .args .alternatives .now) (c .loop-k .alternatives) (c .args .run) (c .args .start) (c .loop-k .k) (c .loop-k .end) (c .loop-k .inv)
-    (c .pre .past) (c .pre .within) (c .loop-k-test .taken))
+cast-alternatives-in-loop-k c = omega (
+  arith,
+  c .pre .small,
+  c .pre .within,
+  c .loop-k-test .taken,
+  end-low (λ _. true) (new-number (c .args .numbers .now)) (c .args .alternatives .now) (c .loop-k .alternatives) (c .args .run) (c .args .start) (c .loop-k .k) (c .loop-k .end) (c .loop-k .inv)
+      (c .pre .past) (c .pre .within) (c .loop-k-test .taken),
+)
 
 pub add-end : need.add-end
-add-end c = omega (arith, c .pre .small, c .pre .within, c .loop-k-test .taken, end-low (λ _. true) (new-number (c .args .numbers .now)) (c .args .alternatives .now) (c .loop-k .alternatives) (c .args .run) (c .args .start) (c .loop-k .k) (c .loop-k .end) (c .loop-k .inv)
-    (c .pre .past) (c .pre .within) (c .loop-k-test .taken))
+add-end c = omega (
+  arith,
+  c .pre .small,
+  c .pre .within,
+  c .loop-k-test .taken,
+  end-low (λ _. true) (new-number (c .args .numbers .now)) (c .args .alternatives .now) (c .loop-k .alternatives) (c .args .run) (c .args .start) (c .loop-k .k) (c .loop-k .end) (c .loop-k .inv)
+      (c .pre .past) (c .pre .within) (c .loop-k-test .taken),
+)
 
 pub loop-k-again : need.loop-k-again
 loop-k-again c = turn-take (λ _. true) (new-number (c .args .numbers .now)) (c .args .alternatives .now) (c .loop-k .alternatives) (c .args .run) (c .args .start) (c .loop-k .k) (c .loop-k .end) (c .loop-k .inv)
@@ -41,7 +66,7 @@ pub returns : need.returns
 returns c =
     let all = moving-all (λ _. true) (new-number (c .args .numbers .now)) (c .args .alternatives .now) (c .args .run .first) (c .args .start) (c .loop-k .alternatives) (c .loop-k .k) (c .loop-k .end) (c .loop-k .inv) (c .args .run .count) (omega arith) in
     let every = kept-all (entries (c .args .alternatives .now) (c .args .run)) in
-    record
-    { end = all .end ∙ ap (λ xs. c .args .start + length (map (new-number (c .args .numbers .now)) xs)) every
-    ; moved = all .is ∙ ap (λ xs. put (c .args .start) (map (new-number (c .args .numbers .now)) xs) (c .args .alternatives .now)) every
+    record {
+      end = all .end ∙ ap (λ xs. c .args .start + length (map (new-number (c .args .numbers .now)) xs)) every;
+      moved = all .is ∙ ap (λ xs. put (c .args .start) (map (new-number (c .args .numbers .now)) xs) (c .args .alternatives .now)) every;
     }

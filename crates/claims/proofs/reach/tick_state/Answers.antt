@@ -15,23 +15,23 @@ pub tick-run-requires : need.tick-run-requires
 tick-run-requires c κs =
     let alts = c .args .alternatives .now in
     let ticks = c .args .ticks .now in
-    record
-    { within = subst (Runs-state (length alts)) (c .in-Step .is) (c .pre .runs) .0
-    ; inside =
-        all-front (λ d. d < length ticks) (entries alts (c .in-Step .moves)) (entries alts (c .in-Step .heres))
-        (subst (λ n. All (λ d. d < length ticks) (parts (state-line alts n))) (c .in-Step .is) (c .pre .inside))
+    record {
+      within = subst (Runs-state (length alts)) (c .in-Step .is) (c .pre .runs) .0;
+      inside =
+          all-front (λ d. d < length ticks) (entries alts (c .in-Step .moves)) (entries alts (c .in-Step .heres))
+          (subst (λ n. All (λ d. d < length ticks) (parts (state-line alts n))) (c .in-Step .is) (c .pre .inside));
     }
 
 pub tick-run-requires-in-Step : need.tick-run-requires-in-Step
 tick-run-requires-in-Step c κs =
     let alts = c .args .alternatives .now in
     let ticks = c .args .ticks .now in
-    record
-    { within = subst (Runs-state (length alts)) (c .in-Step .is) (c .pre .runs) .1
-    ; inside =
-        all-weaker (λ d. d < length ticks) (λ d. d < length (c .tick-run .last .ticks)) (λ d h. omega (arith, c .tick-run .kept .ticks)) (entries alts (c .in-Step .heres))
-        (all-back (λ d. d < length ticks) (entries alts (c .in-Step .moves)) (entries alts (c .in-Step .heres))
-          (subst (λ n. All (λ d. d < length ticks) (parts (state-line alts n))) (c .in-Step .is) (c .pre .inside)))
+    record {
+      within = subst (Runs-state (length alts)) (c .in-Step .is) (c .pre .runs) .1;
+      inside =
+          all-weaker (λ d. d < length ticks) (λ d. d < length (c .tick-run .last .ticks)) (λ d h. omega (arith, c .tick-run .kept .ticks)) (entries alts (c .in-Step .heres))
+          (all-back (λ d. d < length ticks) (entries alts (c .in-Step .moves)) (entries alts (c .in-Step .heres))
+          (subst (λ n. All (λ d. d < length ticks) (parts (state-line alts n))) (c .in-Step .is) (c .pre .inside)));
     }
 
 pub returns-in-Step : need.returns-in-Step

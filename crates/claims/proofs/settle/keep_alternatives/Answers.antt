@@ -29,36 +29,60 @@ index-map-d c =
 pub index-alternatives-end : need.index-alternatives-end
 index-alternatives-end c =
     let E = glance (c .args .nodes .now) (c .args .map .now) in
-    omega (arith, c .pre .within, c .loop-k-test .taken, c .loop-k .kept .alternatives, end-low (λ d. not (is-no (tone-of E d))) (λ d. E d .to) (c .args .alternatives .now) (c .loop-k .alternatives) (c .args .run) (c .args .start) (c .loop-k .k) (c .loop-k .end) (c .loop-k .inv)
-    (c .pre .past) (c .pre .within) (c .loop-k-test .taken))
+    omega (
+      arith,
+      c .pre .within,
+      c .loop-k-test .taken,
+      c .loop-k .kept .alternatives,
+      end-low (λ d. not (is-no (tone-of E d))) (λ d. E d .to) (c .args .alternatives .now) (c .loop-k .alternatives) (c .args .run) (c .args .start) (c .loop-k .k) (c .loop-k .end) (c .loop-k .inv)
+          (c .pre .past) (c .pre .within) (c .loop-k-test .taken),
+    )
 
 pub cast-alternatives-then-not-is-no : need.cast-alternatives-then-not-is-no
 cast-alternatives-then-not-is-no c =
     let E = glance (c .args .nodes .now) (c .args .map .now) in
-    omega (arith, c .pre .small, c .pre .within, c .loop-k-test .taken, end-low (λ d. not (is-no (tone-of E d))) (λ d. E d .to) (c .args .alternatives .now) (c .loop-k .alternatives) (c .args .run) (c .args .start) (c .loop-k .k) (c .loop-k .end) (c .loop-k .inv)
-    (c .pre .past) (c .pre .within) (c .loop-k-test .taken))
+    omega (
+      arith,
+      c .pre .small,
+      c .pre .within,
+      c .loop-k-test .taken,
+      end-low (λ d. not (is-no (tone-of E d))) (λ d. E d .to) (c .args .alternatives .now) (c .loop-k .alternatives) (c .args .run) (c .args .start) (c .loop-k .k) (c .loop-k .end) (c .loop-k .inv)
+          (c .pre .past) (c .pre .within) (c .loop-k-test .taken),
+    )
 
 pub offset-alternatives-end : need.offset-alternatives-end
 offset-alternatives-end c =
     let E = glance (c .args .nodes .now) (c .args .map .now) in
-    omega (arith, c .pre .small, c .pre .within, c .loop-k-test .taken, end-low (λ d. not (is-no (tone-of E d))) (λ d. E d .to) (c .args .alternatives .now) (c .loop-k .alternatives) (c .args .run) (c .args .start) (c .loop-k .k) (c .loop-k .end) (c .loop-k .inv)
-    (c .pre .past) (c .pre .within) (c .loop-k-test .taken))
+    omega (
+      arith,
+      c .pre .small,
+      c .pre .within,
+      c .loop-k-test .taken,
+      end-low (λ d. not (is-no (tone-of E d))) (λ d. E d .to) (c .args .alternatives .now) (c .loop-k .alternatives) (c .args .run) (c .args .start) (c .loop-k .k) (c .loop-k .end) (c .loop-k .inv)
+          (c .pre .past) (c .pre .within) (c .loop-k-test .taken),
+    )
 
 pub add-end : need.add-end
 add-end c =
     let E = glance (c .args .nodes .now) (c .args .map .now) in
-    omega (arith, c .pre .small, c .pre .within, c .loop-k-test .taken, end-low (λ d. not (is-no (tone-of E d))) (λ d. E d .to) (c .args .alternatives .now) (c .loop-k .alternatives) (c .args .run) (c .args .start) (c .loop-k .k) (c .loop-k .end) (c .loop-k .inv)
-    (c .pre .past) (c .pre .within) (c .loop-k-test .taken))
+    omega (
+      arith,
+      c .pre .small,
+      c .pre .within,
+      c .loop-k-test .taken,
+      end-low (λ d. not (is-no (tone-of E d))) (λ d. E d .to) (c .args .alternatives .now) (c .loop-k .alternatives) (c .args .run) (c .args .start) (c .loop-k .k) (c .loop-k .end) (c .loop-k .inv)
+          (c .pre .past) (c .pre .within) (c .loop-k-test .taken),
+    )
 
 pub loop-k-again : need.loop-k-again
 loop-k-again c =
     let E = glance (c .args .nodes .now) (c .args .map .now) in
     let told = sym (c .is-no .ensures ∙ ap is-no (c .see-part .ensures)) in
     elim (c .if-not-is-no .came) [
-      then-not-is-no w ↦ turn-take (λ d. not (is-no (tone-of E d))) (λ d. E d .to) (c .args .alternatives .now) (c .loop-k .alternatives) (c .args .run) (c .args .start) (c .loop-k .k) (c .loop-k .end) (c .loop-k .inv)
-    (c .pre .past) (c .pre .within) (c .loop-k-test .taken) 0 _ _ _ (ap not (told ∙ w .if-not-is-no .taken)) refl (w .alternatives-is) (w .end-is)
-    | else-not-is-no w ↦ turn-skip (λ d. not (is-no (tone-of E d))) (λ d. E d .to) (c .args .alternatives .now) (c .loop-k .alternatives) (c .args .run) (c .args .start) (c .loop-k .k) (c .loop-k .end) (c .loop-k .inv)
-    (c .pre .past) (c .pre .within) (c .loop-k-test .taken) 0 _ _ (ap not (told ∙ w .if-not-is-no .left)) (w .alternatives-is) (w .end-is)
+      | then-not-is-no w ↦ turn-take (λ d. not (is-no (tone-of E d))) (λ d. E d .to) (c .args .alternatives .now) (c .loop-k .alternatives) (c .args .run) (c .args .start) (c .loop-k .k) (c .loop-k .end) (c .loop-k .inv)
+          (c .pre .past) (c .pre .within) (c .loop-k-test .taken) 0 _ _ _ (ap not (told ∙ w .if-not-is-no .taken)) refl (w .alternatives-is) (w .end-is)
+      | else-not-is-no w ↦ turn-skip (λ d. not (is-no (tone-of E d))) (λ d. E d .to) (c .args .alternatives .now) (c .loop-k .alternatives) (c .args .run) (c .args .start) (c .loop-k .k) (c .loop-k .end) (c .loop-k .inv)
+          (c .pre .past) (c .pre .within) (c .loop-k-test .taken) 0 _ _ (ap not (told ∙ w .if-not-is-no .left)) (w .alternatives-is) (w .end-is)
     ]
 
 pub returns : need.returns

@@ -29,36 +29,60 @@ index-map-t c =
 pub index-terms-end : need.index-terms-end
 index-terms-end c =
     let E = glance (c .args .nodes .now) (c .args .map .now) in
-    omega (arith, c .pre .within, c .loop-k-test .taken, c .loop-k .kept .terms, end-low (λ k. is-neither (tone-of E (k .node))) (retarget (λ j. E j .to)) (c .args .terms .now) (c .loop-k .terms) (c .args .run) (c .args .start) (c .loop-k .k) (c .loop-k .end) (c .loop-k .inv)
-    (c .pre .past) (c .pre .within) (c .loop-k-test .taken))
+    omega (
+      arith,
+      c .pre .within,
+      c .loop-k-test .taken,
+      c .loop-k .kept .terms,
+      end-low (λ k. is-neither (tone-of E (k .node))) (retarget (λ j. E j .to)) (c .args .terms .now) (c .loop-k .terms) (c .args .run) (c .args .start) (c .loop-k .k) (c .loop-k .end) (c .loop-k .inv)
+          (c .pre .past) (c .pre .within) (c .loop-k-test .taken),
+    )
 
 pub cast-end : need.cast-end
 cast-end c =
     let E = glance (c .args .nodes .now) (c .args .map .now) in
-    omega (arith, c .pre .small, c .pre .within, c .loop-k-test .taken, end-low (λ k. is-neither (tone-of E (k .node))) (retarget (λ j. E j .to)) (c .args .terms .now) (c .loop-k .terms) (c .args .run) (c .args .start) (c .loop-k .k) (c .loop-k .end) (c .loop-k .inv)
-    (c .pre .past) (c .pre .within) (c .loop-k-test .taken))
+    omega (
+      arith,
+      c .pre .small,
+      c .pre .within,
+      c .loop-k-test .taken,
+      end-low (λ k. is-neither (tone-of E (k .node))) (retarget (λ j. E j .to)) (c .args .terms .now) (c .loop-k .terms) (c .args .run) (c .args .start) (c .loop-k .k) (c .loop-k .end) (c .loop-k .inv)
+          (c .pre .past) (c .pre .within) (c .loop-k-test .taken),
+    )
 
 pub offset-terms-end : need.offset-terms-end
 offset-terms-end c =
     let E = glance (c .args .nodes .now) (c .args .map .now) in
-    omega (arith, c .pre .small, c .pre .within, c .loop-k-test .taken, end-low (λ k. is-neither (tone-of E (k .node))) (retarget (λ j. E j .to)) (c .args .terms .now) (c .loop-k .terms) (c .args .run) (c .args .start) (c .loop-k .k) (c .loop-k .end) (c .loop-k .inv)
-    (c .pre .past) (c .pre .within) (c .loop-k-test .taken))
+    omega (
+      arith,
+      c .pre .small,
+      c .pre .within,
+      c .loop-k-test .taken,
+      end-low (λ k. is-neither (tone-of E (k .node))) (retarget (λ j. E j .to)) (c .args .terms .now) (c .loop-k .terms) (c .args .run) (c .args .start) (c .loop-k .k) (c .loop-k .end) (c .loop-k .inv)
+          (c .pre .past) (c .pre .within) (c .loop-k-test .taken),
+    )
 
 pub add-end : need.add-end
 add-end c =
     let E = glance (c .args .nodes .now) (c .args .map .now) in
-    omega (arith, c .pre .small, c .pre .within, c .loop-k-test .taken, end-low (λ k. is-neither (tone-of E (k .node))) (retarget (λ j. E j .to)) (c .args .terms .now) (c .loop-k .terms) (c .args .run) (c .args .start) (c .loop-k .k) (c .loop-k .end) (c .loop-k .inv)
-    (c .pre .past) (c .pre .within) (c .loop-k-test .taken))
+    omega (
+      arith,
+      c .pre .small,
+      c .pre .within,
+      c .loop-k-test .taken,
+      end-low (λ k. is-neither (tone-of E (k .node))) (retarget (λ j. E j .to)) (c .args .terms .now) (c .loop-k .terms) (c .args .run) (c .args .start) (c .loop-k .k) (c .loop-k .end) (c .loop-k .inv)
+          (c .pre .past) (c .pre .within) (c .loop-k-test .taken),
+    )
 
 pub loop-k-again : need.loop-k-again
 loop-k-again c =
     let E = glance (c .args .nodes .now) (c .args .map .now) in
     let told = sym (c .is-open .ensures ∙ ap is-neither (c .see-part .ensures)) in
     elim (c .if-is-open .came) [
-      then-is-open w ↦ turn-take (λ k. is-neither (tone-of E (k .node))) (retarget (λ j. E j .to)) (c .args .terms .now) (c .loop-k .terms) (c .args .run) (c .args .start) (c .loop-k .k) (c .loop-k .end) (c .loop-k .inv)
-    (c .pre .past) (c .pre .within) (c .loop-k-test .taken) blank-term _ _ _ (told ∙ w .if-is-open .taken) refl (w .terms-is) (w .end-is)
-    | else-is-open w ↦ turn-skip (λ k. is-neither (tone-of E (k .node))) (retarget (λ j. E j .to)) (c .args .terms .now) (c .loop-k .terms) (c .args .run) (c .args .start) (c .loop-k .k) (c .loop-k .end) (c .loop-k .inv)
-    (c .pre .past) (c .pre .within) (c .loop-k-test .taken) blank-term _ _ (told ∙ w .if-is-open .left) (w .terms-is) (w .end-is)
+      | then-is-open w ↦ turn-take (λ k. is-neither (tone-of E (k .node))) (retarget (λ j. E j .to)) (c .args .terms .now) (c .loop-k .terms) (c .args .run) (c .args .start) (c .loop-k .k) (c .loop-k .end) (c .loop-k .inv)
+          (c .pre .past) (c .pre .within) (c .loop-k-test .taken) blank-term _ _ _ (told ∙ w .if-is-open .taken) refl (w .terms-is) (w .end-is)
+      | else-is-open w ↦ turn-skip (λ k. is-neither (tone-of E (k .node))) (retarget (λ j. E j .to)) (c .args .terms .now) (c .loop-k .terms) (c .args .run) (c .args .start) (c .loop-k .k) (c .loop-k .end) (c .loop-k .inv)
+          (c .pre .past) (c .pre .within) (c .loop-k-test .taken) blank-term _ _ (told ∙ w .if-is-open .left) (w .terms-is) (w .end-is)
     ]
 
 pub returns : need.returns

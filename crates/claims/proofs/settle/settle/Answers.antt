@@ -17,14 +17,14 @@ settle-at-ends-requires c κs =
     let p = c .pre .packed in
     let ls = lines (c .args .nodes .now) (c .args .terms .now) (c .args .alternatives .now) in
     let h : c .loop-i .i < length ls = omega (arith, c .loop-i-test .taken, length-map (c .args .nodes .now) (line (c .args .terms .now) (c .args .alternatives .now))) in
-    record
-    { node = omega (arith, c .loop-i-test .taken, c .loop-i .kept .nodes)
-    ; map = omega (arith, c .loop-i-test .taken, c .loop-i .kept .map, c .pre .room)
-    ; few = omega (arith, c .loop-i-test .taken, c .pre .few)
-    ; fit =
-        fit-here ls (formed-ordered ls (p .formed)) (c .pre .light) (p .formed)
-        (c .args .nodes .now) (c .args .terms .now) (c .args .alternatives .now) (c .args .map .now) (p .nodes) (p .terms) (p .alternatives) (p .few-terms) (p .few-alternatives) (c .pre .room)
-        (c .loop-i .i) (c .loop-i .ends .term) (c .loop-i .ends .alternative) (c .loop-i .nodes) (c .loop-i .terms) (c .loop-i .alternatives) (c .loop-i .map) (c .loop-i .inv) h
+    record {
+      node = omega (arith, c .loop-i-test .taken, c .loop-i .kept .nodes);
+      map = omega (arith, c .loop-i-test .taken, c .loop-i .kept .map, c .pre .room);
+      few = omega (arith, c .loop-i-test .taken, c .pre .few);
+      fit =
+          fit-here ls (formed-ordered ls (p .formed)) (c .pre .light) (p .formed)
+          (c .args .nodes .now) (c .args .terms .now) (c .args .alternatives .now) (c .args .map .now) (p .nodes) (p .terms) (p .alternatives) (p .few-terms) (p .few-alternatives) (c .pre .room)
+          (c .loop-i .i) (c .loop-i .ends .term) (c .loop-i .ends .alternative) (c .loop-i .nodes) (c .loop-i .terms) (c .loop-i .alternatives) (c .loop-i .map) (c .loop-i .inv) h;
     }
 
 pub loop-i-again : need.loop-i-again

@@ -17,11 +17,11 @@ keep-alternatives-end-requires c κs =
     let short = left-short E xs (c .args .moves) (omega (arith, c .pre .next, c .pre .within)) in
     let free = gap (alternatives-left E) xs (c .keep-alternatives-middle .last .alternatives) (c .args .moves) (c .args .heres) (c .args .start) short (c .pre .past) (c .pre .next) (c .pre .within) moved in
     let same = heres-same (alternatives-left E) xs (c .keep-alternatives-middle .last .alternatives) (c .args .moves) (c .args .heres) (c .args .start) short (c .pre .past) (c .pre .next) (c .pre .within) moved in
-    record
-    { past = omega (arith, free, c .keep-alternatives-middle .ensures .end)
-    ; within = omega (arith, c .pre .within, c .keep-alternatives-middle .kept .alternatives)
-    ; small = omega (arith, c .pre .small, c .keep-alternatives-middle .kept .alternatives)
-    ; led = subst (All (Led (c .args .i) (c .args .nodes .now) (c .args .map .now))) (sym same) (c .pre .heres)
+    record {
+      past = omega (arith, free, c .keep-alternatives-middle .ensures .end);
+      within = omega (arith, c .pre .within, c .keep-alternatives-middle .kept .alternatives);
+      small = omega (arith, c .pre .small, c .keep-alternatives-middle .kept .alternatives);
+      led = subst (All (Led (c .args .i) (c .args .nodes .now) (c .args .map .now))) (sym same) (c .pre .heres);
     }
 
 pub returns : need.returns
@@ -35,9 +35,9 @@ returns c =
     let short = left-short E xs (c .args .moves) (omega (arith, c .pre .next, c .pre .within)) in
     let same = heres-same (alternatives-left E) xs (c .keep-alternatives-middle .last .alternatives) (c .args .moves) h (c .args .start) short (c .pre .past) (c .pre .next) (c .pre .within) moved in
     let all = both-moved (alternatives-left E) xs (c .keep-alternatives-middle .last .alternatives) (c .args .moves) h (c .args .start) short (c .pre .past) (c .pre .next) (c .pre .within) moved
-          (c .keep-alternatives-end .last .alternatives) (c .keep-alternatives-middle .result) (c .keep-alternatives-middle .ensures .end) (c .keep-alternatives-end .ensures .moved) in
+    (c .keep-alternatives-end .last .alternatives) (c .keep-alternatives-middle .result) (c .keep-alternatives-middle .ensures .end) (c .keep-alternatives-end .ensures .moved) in
     let count : h .count ≡ (h .first + h .count) - h .first = omega arith in
     let none = ap (λ n. has-yes E (take n (drop (h .first) xs))) count ∙ (sym (c .some-yes .ensures) ∙ c .if-some-yes .left) in
     let step = stepped (c .args .action) (c .args .start) (c .keep-alternatives-middle .result) (c .keep-alternatives-end .result) ms hs (has-yes E (entries xs h))
-          (c .keep-alternatives-middle .ensures .end) (c .keep-alternatives-end .ensures .end ∙ ap (λ ds. c .keep-alternatives-middle .result + length (alternatives-left E ds)) same) (c .if-end-start .left) none in
+    (c .keep-alternatives-middle .ensures .end) (c .keep-alternatives-end .ensures .end ∙ ap (λ ds. c .keep-alternatives-middle .result + length (alternatives-left E ds)) same) (c .if-end-start .left) none in
     record { to = refl; node = step .is; end = step .end; moved = all ∙ ap (λ ds. put (c .args .start) ds xs) (step .all) }

@@ -11,7 +11,7 @@ pub weigh-rest-requires : need.weigh-rest-requires
 weigh-rest-requires c κs =
     let r = c .args .run in
     let same : r .count ≡ (r .first + r .count) - r .first = omega arith in
-    record
-    { led = subst (λ n. All (λ k. Led (c .args .i) (c .args .nodes .now) (c .args .map .now) (k .node)) (take n (drop (r .first) (c .args .terms .now)))) same (c .pre .led)
-    ; light = subst (λ n. coefficients (take n (drop (r .first) (c .args .terms .now))) < 2 ^ 64) same (c .pre .light)
+    record {
+      led = subst (λ n. All (λ k. Led (c .args .i) (c .args .nodes .now) (c .args .map .now) (k .node)) (take n (drop (r .first) (c .args .terms .now)))) same (c .pre .led);
+      light = subst (λ n. coefficients (take n (drop (r .first) (c .args .terms .now))) < 2 ^ 64) same (c .pre .light);
     }

@@ -17,13 +17,16 @@ loop-t-holds c = record { threshold = omega arith; weight = refl }
 pub see-part-requires : need.see-part-requires
 see-part-requires c κs =
     let led =
-          all-getD (λ k. Led (c .args .i) (c .args .nodes .now) (c .args .map .now) (k .node)) (c .args .terms .now) (c .loop-t .t-index) blank-term (c .loop-t-test .taken) (c .pre .led) in
+    all-getD (λ k. Led (c .args .i) (c .args .nodes .now) (c .args .map .now) (k .node)) (c .args .terms .now) (c .loop-t .t-index) blank-term (c .loop-t-test .taken) (c .pre .led) in
     record { part = led .0; node = led .1 }
 
 pub weigh-term-rest-requires : need.weigh-term-rest-requires
 weigh-term-rest-requires c κs =
-    omega (arith, c .pre .light,
-      weighed-room (glance (c .args .nodes .now) (c .args .map .now)) (c .args .threshold) (c .args .terms .now) (c .loop-t .t-index) (c .loop-t .rest .threshold) (c .loop-t .rest .weight) (c .loop-t .inv) blank-term (c .loop-t-test .taken))
+    omega (
+      arith,
+      c .pre .light,
+      weighed-room (glance (c .args .nodes .now) (c .args .map .now)) (c .args .threshold) (c .args .terms .now) (c .loop-t .t-index) (c .loop-t .rest .threshold) (c .loop-t .rest .weight) (c .loop-t .inv) blank-term (c .loop-t-test .taken),
+    )
 
 pub loop-t-again : need.loop-t-again
 loop-t-again c =
@@ -40,5 +43,5 @@ returns c =
     let all = take-all (c .loop-t .t-index) (c .args .terms .now) (c .loop-t-test .left) in
     record {
       threshold = c .loop-t .inv .threshold ∙ ap (λ ks. c .args .threshold - yes-part E ks) all;
-      weight = c .loop-t .inv .weight ∙ ap (λ ks. coefficients (terms-left E ks)) all
+      weight = c .loop-t .inv .weight ∙ ap (λ ks. coefficients (terms-left E ks)) all;
     }

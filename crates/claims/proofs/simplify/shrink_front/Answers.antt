@@ -28,12 +28,12 @@ shrink-requires c κs =
     let to = c .args .map .now in
     let n = front-nodes f (c .args .root) ns ts alts to R (c .pre .room) (ends f) (same f) in
     let k = front-numbers f (c .args .root) ns ts alts to R (c .pre .room) (ends f) (same f) in
-    record
-    { packed = front-packed f (c .args .root) ns ts alts to R (c .pre .room) (ends f) (same f)
-    ; light = front-light f (c .args .root) ns ts alts to R (c .pre .room) (ends f) (same f)
-    ; long = k ∙ sym n
-    ; few = omega (arith, n, R .few)
-    ; root = omega (arith, n, R .root)
+    record {
+      packed = front-packed f (c .args .root) ns ts alts to R (c .pre .room) (ends f) (same f);
+      light = front-light f (c .args .root) ns ts alts to R (c .pre .room) (ends f) (same f);
+      long = k ∙ sym n;
+      few = omega (arith, n, R .few);
+      root = omega (arith, n, R .root);
     }
 
 pub returns : need.returns

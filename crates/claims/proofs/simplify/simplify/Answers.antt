@@ -13,9 +13,9 @@ shrink-front-standing-requires c κs =
     let t : c .fills-fills .result .terms ≤ 1048576 = omega (arith, claim .few .1, ap (λ (f : Fills). f .terms) (c .fills-fills .ensures)) in
     let a : c .fills-fills .result .alternatives ≤ 1048576 = omega (arith, claim .few .2, ap (λ (f : Fills). f .alternatives) (c .fills-fills .ensures)) in
     let m : c .mass .result ≤ 1000000000000000 = omega (arith, claim .weighed .1, c .mass .ensures) in
-    record
-    { ready =
-        admitted (c .fills-fills .result) (c .root-root .result) (c .mass .result) (c .args .nodes .now) (c .args .terms .now) (c .args .alternatives .now)
-        (sym (c .formula-in .ensures .value) ∙ held) (c .formula-in .ensures .right held) (c .layout-stands .ensures .tables) (c .satisfaction-stands .ensures .formed) n t a m
-    ; room = c .if-map-fills .left
+    record {
+      ready =
+          admitted (c .fills-fills .result) (c .root-root .result) (c .mass .result) (c .args .nodes .now) (c .args .terms .now) (c .args .alternatives .now)
+          (sym (c .formula-in .ensures .value) ∙ held) (c .formula-in .ensures .right held) (c .layout-stands .ensures .tables) (c .satisfaction-stands .ensures .formed) n t a m;
+      room = c .if-map-fills .left;
     }
