@@ -1,19 +1,18 @@
 -- From the test of the tables to what simplify needs.
-use mathlib.Core.Path.{_≡_, refl, sym, ap, ap₂, subst, _∙_}
+use mathlib.Core.Path.{_≡_, sym, ap, subst, _∙_}
 use mathlib.Core.Logic.{⊎-elim}
-use mathlib.Core.Bool.{Bool, true, false, cond, _&&_, false≢true}
-use mathlib.Core.List.{List, [], _∷_, _++_}
-use Prim.Native.Nat.{ℕ, _+_, _-_, _*_, _^_, _≤_, _<_, min}
+use mathlib.Core.Bool.{true, false, _&&_, false≢true}
+use mathlib.Core.List.{List, [], _++_}
+use Prim.Native.Nat.{ℕ, _+_, _-_, _*_, _≤_, _<_}
 use native.Mathlib.Omega.{arith}
 use lib.Dec.{leb}
-use lib.ListN.{length, getD, take, drop, replicate}
-use Rattle.std.specs.shelf.Lists.{sumBy}
-use Rattle.std.proofs.shelf.Lists.{append-nil, append-assoc, drop-all, length-take, length-take-le, getD-past}
+use lib.ListN.{length, take, drop}
+use Rattle.std.proofs.shelf.Lists.{append-nil, drop-all, length-take-le, getD-past}
 use Rattle.std.proofs.shelf.Tests.{and-parts, leb-true, cases-lt}
 use Rattle.formulas.specs.declared.node.Node.{Node}
 use Rattle.formulas.specs.declared.node.Term.{Term}
 use Rattle.formulas.specs.declared.node.Fills.{Fills}
-use Rattle.formulas.specs.Lines.{Sort, state, dist, Line, constant, both, non, step, sum, part, lines, Formula}
+use Rattle.formulas.specs.Lines.{Line, constant, both, non, step, sum, part, lines}
 use Rattle.formulas.specs.Layout.{node, node-table, term-table, alternative-table, terms-in}
 use Rattle.formulas.specs.Laws.{Layout-law, Formed-law}
 use Rattle.formulas.specs.Right.{Right, All-right}
@@ -21,7 +20,7 @@ use Rattle.formulas.specs.Stands.{stateSort, no-dist, isState, walk, stands, fo
 use Rattle.claims.specs.WellFormed.{line-at}
 use Rattle.claims.specs.Rows.{no-node}
 use Rattle.claims.specs.Simplify.{coefficients, simplify}
-use Rattle.claims.specs.Simplified.{blank-node, blank-term, padded, renewed}
+use Rattle.claims.specs.Simplified.{blank-node, blank-term, padded}
 use Rattle.claims.specs.Shrinking.{atop, Packed, Light, Shrunk, Ready-to-shrink, Renewed}
 use Rattle.claims.proofs.Here.{terms-before, alternatives-before, terms-here, node-here}
 use Rattle.claims.proofs.Cutting.{lines-long, base, as-it-is}

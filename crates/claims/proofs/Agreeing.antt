@@ -1,17 +1,15 @@
 -- Formulas that agree in the lines that are kept are pruned to the same.
 use mathlib.Core.Path.{_≡_, refl, sym, ap, ap₂, subst, _∙_}
 use mathlib.Core.Bool.{Bool, true, false, cond}
-use mathlib.Core.List.{List, [], _∷_, _++_, map}
-use Prim.Native.Nat.{ℕ, zero, suc, _+_, _≤_, _<_}
+use mathlib.Core.List.{List, [], _∷_, _++_}
+use Prim.Native.Nat.{ℕ, suc, _+_, _<_}
 use native.Mathlib.Omega.{arith}
-use native.Mathlib.Nat.{le-of-suc-le-suc}
-use lib.ListN.{length, getD}
-use Rattle.std.specs.shelf.Lists.{All}
+use lib.ListN.{length}
 use Rattle.std.proofs.shelf.Lists.{length-map, getD-map}
 use Rattle.std.proofs.shelf.Elements.{all-weaker}
 use Rattle.formulas.specs.Lines.{state, Line, constant, Formula}
 use Rattle.claims.specs.WellFormed.{line-at}
-use Rattle.claims.specs.Simplify.{parts, Outcome, became, blank, outcomes, settle, member, reached, kept, rank, place, renumber, compact, prune, simplify}
+use Rattle.claims.specs.Simplify.{parts, Outcome, settle, member, reached, kept, rank, renumber, compact, prune, simplify}
 use Rattle.claims.specs.Shrinking.{leaves, left-lines}
 use Rattle.claims.proofs.Outcomes.{Ordered, outcome, outcome-at, placed, lines-of, lines-length, lines-get}
 use Rattle.claims.proofs.Prune.{member-back}

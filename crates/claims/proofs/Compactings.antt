@@ -3,26 +3,23 @@ use mathlib.Core.Path.{_≡_, refl, sym, ap, ap₂, subst, _∙_}
 use mathlib.Core.Logic.{⊎-elim}
 use mathlib.Core.Bool.{Bool, true, false, cond, false≢true}
 use mathlib.Core.List.{List, [], _∷_, _++_, map}
-use Prim.Native.Nat.{ℕ, zero, suc, _+_, _-_, _^_, _≤_, _<_}
+use Prim.Native.Nat.{ℕ, suc, _+_, _-_, _^_, _≤_, _<_}
 use native.Mathlib.Omega.{arith}
-use native.Mathlib.Nat.{add-zero}
 use native.Mathlib.Numerals.{add-one}
-use lib.Dec.{eqb}
-use lib.ListN.{length, getD, set, take, drop}
+use lib.ListN.{length, getD, set, take}
 use Rattle.std.specs.shelf.Lists.{All}
 use Rattle.std.proofs.shelf.Lists.{append-nil, map-append, length-map, length-append, length-push, length-take-le, getD-set-same, getD-set-other, take-more, take-all}
-use Rattle.std.proofs.shelf.Elements.{all-weaker, all-getD}
-use Rattle.std.proofs.shelf.Tests.{eq-eqb, ne-eqb, eqb-true, cases-eq, cases-lt}
+use Rattle.std.proofs.shelf.Elements.{all-weaker}
+use Rattle.std.proofs.shelf.Tests.{eq-eqb, ne-eqb, cases-eq, cases-lt}
 use Rattle.formulas.specs.declared.node.Node.{Node}
 use Rattle.formulas.specs.declared.node.Term.{Term}
-use Rattle.formulas.specs.declared.node.Fills.{Fills}
-use Rattle.formulas.specs.Lines.{Sort, state, dist, Line, constant, both, non, step, sum, part, line, lines}
-use Rattle.formulas.specs.Layout.{node, node-table, term-table, alternative-table, fills, terms-in, alternatives-in}
+use Rattle.formulas.specs.Lines.{state, dist, Line, constant, both, non, step, sum, part, line}
+use Rattle.formulas.specs.Layout.{node, node-table, term-table, alternative-table, terms-in, alternatives-in}
 use Rattle.formulas.specs.Right.{Below}
 use Rattle.claims.specs.WellFormed.{line-at}
 use Rattle.claims.specs.Rows.{no-node}
 use Rattle.claims.specs.Simplify.{parts, retarget, renumber, rank, compact}
-use Rattle.claims.specs.Shrinking.{put, atop, new-number, Near, Moved-as, is-ticked, Kept-at, Gone-at, front-kept, Compacting, Compacted}
+use Rattle.claims.specs.Shrinking.{put, atop, new-number, Near, is-ticked, Kept-at, Gone-at, front-kept, Compacting, Compacted}
 use Rattle.claims.proofs.Lists.{all-front, all-back, all-both, all-of-map}
 use Rattle.claims.proofs.Outcomes.{Ordered}
 use Rattle.claims.proofs.Prune.{rank-yes, rank-no}

@@ -1,12 +1,12 @@
 -- From the lines to those that the root reaches.
-use mathlib.Core.Path.{_≡_, refl, sym, ap, ap₂, subst, _∙_}
+use mathlib.Core.Path.{_≡_, refl, sym, ap, subst, _∙_}
 use mathlib.Core.Logic.{⊎-elim}
-use mathlib.Core.Bool.{Bool, true, false, cond, true≢false}
-use mathlib.Core.List.{List, [], _∷_, _++_, map}
+use mathlib.Core.Bool.{Bool, true, false, cond}
+use mathlib.Core.List.{List, [], _∷_}
 use Prim.Native.Nat.{ℕ, _+_, _-_, _≤_, _<_}
 use native.Mathlib.Omega.{arith}
 use lib.Dec.{eqb}
-use lib.ListN.{length, getD, take, replicate}
+use lib.ListN.{length, getD, replicate}
 use Rattle.std.specs.shelf.Lists.{All}
 use Rattle.std.proofs.shelf.Lists.{length-map, length-append, getD-map, getD-past, getD-replicate, length-replicate}
 use Rattle.std.proofs.shelf.Elements.{all-weaker}
@@ -14,11 +14,11 @@ use Rattle.std.proofs.shelf.Tests.{cases-lt, cases-bool}
 use Rattle.formulas.specs.declared.node.Node.{Node}
 use Rattle.formulas.specs.declared.node.Term.{Term}
 use Rattle.formulas.specs.declared.node.Fills.{Fills}
-use Rattle.formulas.specs.Lines.{Sort, state, dist, Line, constant, both, non, step, sum, line, lines, Formula}
-use Rattle.formulas.specs.Layout.{node, node-table, term-table, alternative-table, fills, terms-in, alternatives-in}
+use Rattle.formulas.specs.Lines.{state, dist, Line, constant, both, non, step, sum, line, lines, Formula}
+use Rattle.formulas.specs.Layout.{node, terms-in, alternatives-in}
 use Rattle.claims.specs.WellFormed.{line-at}
 use Rattle.claims.specs.Rows.{no-node}
-use Rattle.claims.specs.Simplify.{parts, member, reached, kept, rank, place, compact, prune}
+use Rattle.claims.specs.Simplify.{parts, reached, kept, prune}
 use Rattle.claims.specs.Shrinking.{Packed, Runs, Ticks, is-ticked, Compacted, Cut}
 use Rattle.claims.proofs.Outcomes.{Ordered}
 use Rattle.claims.proofs.Prune.{kept-only, kept-root, kept-parts}

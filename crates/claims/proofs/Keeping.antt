@@ -1,7 +1,7 @@
 -- What is left of a run: entries that pass are moved down.
-use mathlib.Core.Path.{_≡_, refl, sym, ap, ap₂, subst, _∙_}
-use mathlib.Core.Bool.{Bool, true, false, cond, not}
-use mathlib.Core.List.{List, [], _∷_, _++_, map}
+use mathlib.Core.Path.{_≡_, refl, sym, ap, _∙_}
+use mathlib.Core.Bool.{Bool, true, false, cond}
+use mathlib.Core.List.{List, [], _∷_, map}
 use Prim.Native.Nat.{ℕ, _+_, _-_, _≤_, _<_}
 use native.Mathlib.Omega.{arith}
 use lib.ListN.{length, getD, set, take}
@@ -10,7 +10,7 @@ use Rattle.std.proofs.shelf.Elements.{kept-by-more}
 use Rattle.std.proofs.shelf.Sums.{sumBy-cons, sumBy-append, sumBy-more, sumBy-take-le}
 use Rattle.formulas.specs.declared.node.Run.{Run}
 use Rattle.formulas.specs.declared.node.Term.{Term}
-use Rattle.formulas.specs.Lines.{part, entries}
+use Rattle.formulas.specs.Lines.{entries}
 use Rattle.claims.specs.Simplify.{Outcome, tone-of, is-yes, is-neither, coefficients, retarget, terms-left, yes-part}
 use Rattle.claims.proofs.Puts.{Moving, moving-low, moving-at, moving-read, moving-take, moving-skip}
 

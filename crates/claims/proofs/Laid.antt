@@ -1,17 +1,17 @@
 -- Lines laid out in tables: where each stands, and how it is read back.
-use mathlib.Core.Path.{_≡_, refl, sym, ap, ap₂, subst, _∙_}
-use mathlib.Core.Bool.{Bool, true, false, cond}
+use mathlib.Core.Path.{_≡_, refl, sym, ap, ap₂, _∙_}
+use mathlib.Core.Bool.{true, false}
 use mathlib.Core.List.{List, [], _∷_, _++_, map}
 use Prim.Native.Nat.{ℕ, zero, suc, _+_, _-_, _≤_, _<_}
 use native.Mathlib.Omega.{arith}
-use native.Mathlib.Nat.{add-zero, not-suc-le-zero, le-of-suc-le-suc}
+use native.Mathlib.Nat.{not-suc-le-zero, le-of-suc-le-suc}
 use lib.ListN.{length, getD, take, drop}
 use Rattle.std.specs.shelf.Lists.{All}
 use Rattle.std.proofs.shelf.Lists.{append-assoc, append-nil, length-append, take-at, take-take, drop-at, drop-drop, drop-take}
 use Rattle.std.proofs.shelf.Elements.{all-append, all-map}
 use Rattle.formulas.specs.declared.node.Node.{Node}
 use Rattle.formulas.specs.declared.node.Term.{Term}
-use Rattle.formulas.specs.Lines.{Sort, state, dist, Line, constant, both, non, step, sum, part, line}
+use Rattle.formulas.specs.Lines.{state, dist, Line, constant, both, non, step, sum, part, line}
 use Rattle.formulas.specs.Layout.{node, node-table, term-table, alternative-table, terms-in, alternatives-in}
 use Rattle.formulas.specs.Right.{Below, Formed}
 use Rattle.claims.specs.WellFormed.{line-at}

@@ -1,11 +1,11 @@
 -- What stands at the place of a line after the first pass.
-use mathlib.Core.Path.{_≡_, refl, sym, ap, ap₂, subst, _∙_}
-use mathlib.Core.Bool.{Bool, true, false, cond, not, _||_}
+use mathlib.Core.Path.{_≡_, refl, ap, ap₂, _∙_}
+use mathlib.Core.Bool.{Bool, true, false, cond, not}
 use mathlib.Core.List.{List, [], _∷_, _++_, map}
 use Prim.Native.Nat.{ℕ, _+_, _-_, _≤_, _<_}
 use native.Mathlib.Omega.{arith}
 use lib.Dec.{eqb, ltb}
-use lib.ListN.{length, getD}
+use lib.ListN.{length}
 use Rattle.std.specs.shelf.Lists.{All, kept-by}
 use Rattle.std.proofs.shelf.Lists.{length-append, length-map}
 use Rattle.std.proofs.shelf.Elements.{all-weaker}
@@ -13,7 +13,7 @@ use Rattle.std.proofs.shelf.Sums.{length-kept-by, countBy-le-length}
 use Rattle.formulas.specs.declared.node.Term.{Term}
 use Rattle.formulas.specs.Lines.{Sort, state, dist, Line, constant, both, non, step, sum}
 use Rattle.formulas.specs.Layout.{terms-in, alternatives-in}
-use Rattle.claims.specs.Simplify.{parts, coefficients, Tone, yes, no, neither, tone, tone-of, is-yes, is-no, is-neither, Outcome, own, both-outcome, non-line, step-line, sum-line, alternatives-left, has-yes, retarget, terms-left, yes-part, became}
+use Rattle.claims.specs.Simplify.{parts, coefficients, Tone, yes, no, neither, tone, tone-of, is-yes, is-no, is-neither, Outcome, both-outcome, non-line, step-line, sum-line, alternatives-left, has-yes, retarget, terms-left, yes-part, became}
 use Rattle.claims.specs.Shrinking.{both-left, leaves}
 use Rattle.claims.proofs.Lists.{all-front, all-back, all-of-map, any-same, map-kept-same, kept-same}
 use Rattle.claims.proofs.Outcomes.{shrunk-parts}

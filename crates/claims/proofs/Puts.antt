@@ -2,13 +2,12 @@
 use mathlib.Core.Path.{_≡_, refl, sym, ap, ap₂, subst, _∙_}
 use mathlib.Core.Bool.{Bool, true, false, cond}
 use mathlib.Core.List.{List, [], _∷_, _++_, map}
-use Prim.Native.Nat.{ℕ, zero, suc, _+_, _-_, _≤_, _<_}
+use Prim.Native.Nat.{ℕ, _+_, _-_, _≤_, _<_}
 use native.Mathlib.Omega.{arith}
-use native.Mathlib.Nat.{add-zero, add-assoc}
-use native.Mathlib.Numerals.{add-one}
+use native.Mathlib.Nat.{add-zero}
 use lib.ListN.{length, getD, set, take, drop, replicate}
 use Rattle.std.specs.shelf.Lists.{All, kept-by}
-use Rattle.std.proofs.shelf.Lists.{append-assoc, append-nil, map-append, length-append, length-map, length-push, length-take, length-take-le, length-drop, length-replicate, replicate-more, take-append-drop, take-at, take-all, drop-at, drop-drop, drop-append-le, drop-all, drop-more, take-more, set-at, getD-drop, getD-take}
+use Rattle.std.proofs.shelf.Lists.{append-assoc, append-nil, map-append, length-append, length-map, length-push, length-take-le, length-drop, length-replicate, replicate-more, take-append-drop, take-at, drop-at, drop-drop, drop-all, drop-more, take-more, set-at, getD-drop, getD-take}
 use Rattle.std.proofs.shelf.Elements.{kept-by-append, all-getD}
 use Rattle.std.proofs.shelf.Sums.{length-kept-by, countBy-le-length}
 use Rattle.formulas.specs.Lines.{part}

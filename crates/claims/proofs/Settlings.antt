@@ -1,23 +1,23 @@
 -- The first pass, node after node.
 use mathlib.Core.Path.{_≡_, refl, sym, ap, ap₂, subst, _∙_}
-use mathlib.Core.Bool.{Bool, true, false, cond}
+use mathlib.Core.Bool.{true, false}
 use mathlib.Core.List.{List, [], _∷_, _++_, map}
 use Prim.Native.Nat.{ℕ, _+_, _-_, _^_, _≤_, _<_}
 use native.Mathlib.Omega.{arith}
 use lib.ListN.{length, getD, set, take, drop}
 use Rattle.std.specs.shelf.Lists.{All}
-use Rattle.std.proofs.shelf.Lists.{length-map, length-take-le, length-set, length-append, length-push, getD-append-left, getD-map, getD-take, getD-set-same, take-map, take-more, take-all, drop-all, append-nil, map-more}
+use Rattle.std.proofs.shelf.Lists.{length-map, length-take-le, length-append, getD-append-left, getD-map, getD-take, take-map, take-more, take-all, drop-all, append-nil, map-more}
 use Rattle.std.proofs.shelf.Elements.{all-weaker}
 use Rattle.formulas.specs.declared.node.Node.{Node}
 use Rattle.formulas.specs.declared.node.Term.{Term}
-use Rattle.formulas.specs.Lines.{Sort, state, dist, Line, constant, both, non, step, sum, part, line, lines}
+use Rattle.formulas.specs.Lines.{state, dist, Line, constant, both, non, step, sum, part, line, lines}
 use Rattle.formulas.specs.Layout.{node, node-table, term-table, alternative-table, terms-in, alternatives-in}
 use Rattle.formulas.specs.Right.{Below}
 use Rattle.claims.specs.WellFormed.{line-at}
 use Rattle.claims.specs.Rows.{no-node}
 use Rattle.claims.specs.Simplify.{parts, coefficients, tone, Outcome, became, blank, outcomes}
-use Rattle.claims.specs.Shrinking.{put, atop, glance, leaves, Led, Fit, Turned, Settled-at, left-lines, Light, Settling, Settled}
-use Rattle.claims.proofs.Lists.{all-front, all-back, grown-length}
+use Rattle.claims.specs.Shrinking.{put, atop, glance, leaves, Led, Fit, Settled-at, left-lines, Light, Settling, Settled}
+use Rattle.claims.proofs.Lists.{grown-length}
 use Rattle.claims.proofs.Outcomes.{Ordered, outcome, outcome-at, Placed, placed}
 use Rattle.claims.proofs.Puts.{atop-more, atop-set, length-atop}
 use Rattle.claims.proofs.Laid.{table-push, table-shorter, length-nodes, nodes-push, node-at, part-front, part-back, tone-of-node}

@@ -1,29 +1,28 @@
 -- The three passes together.
 use mathlib.Core.Path.{_≡_, refl, sym, ap, ap₂, subst, _∙_}
-use mathlib.Core.Bool.{Bool, true, false, cond}
-use mathlib.Core.List.{List, [], _∷_, _++_, map}
+use mathlib.Core.Bool.{true}
+use mathlib.Core.List.{List, [], _++_, map}
 use Prim.Native.Nat.{ℕ, _+_, _-_, _^_, _≤_, _<_}
 use native.Mathlib.Omega.{arith}
 use lib.ListN.{length, getD, take, drop, replicate}
-use Rattle.std.specs.shelf.Lists.{All}
-use Rattle.std.proofs.shelf.Lists.{length-map, length-append, length-drop, getD-map, getD-append-left, drop-at, take-at, ext-getD}
+use Rattle.std.proofs.shelf.Lists.{length-map, length-append, getD-map, getD-append-left, drop-at, take-at, ext-getD}
 use Rattle.std.proofs.shelf.Elements.{all-weaker}
 use Rattle.formulas.specs.declared.node.Node.{Node}
 use Rattle.formulas.specs.declared.node.Term.{Term}
 use Rattle.formulas.specs.declared.node.Fills.{Fills}
-use Rattle.formulas.specs.Lines.{Sort, state, dist, Line, constant, both, non, step, sum, line, lines, Formula}
-use Rattle.formulas.specs.Layout.{node-table, term-table, alternative-table, fills, terms-in, alternatives-in}
+use Rattle.formulas.specs.Lines.{state, Line, constant, line, lines, Formula}
+use Rattle.formulas.specs.Layout.{node-table, term-table, alternative-table}
 use Rattle.formulas.specs.Right.{Below, Formed}
 use Rattle.claims.specs.WellFormed.{line-at}
 use Rattle.claims.specs.Rows.{no-node}
-use Rattle.claims.specs.Simplify.{parts, Tone, yes, no, neither, tone-of, Outcome, became, non-line, step-line, alternatives-left, has-yes, terms-left, yes-part, coefficients, blank, outcomes, prune, simplify}
+use Rattle.claims.specs.Simplify.{parts, became, blank, outcomes, prune, simplify}
 use Rattle.claims.specs.Simplified.{blank-node, blank-term, padded}
-use Rattle.claims.specs.Shrinking.{atop, both-left, leaves, left-lines, Packed, Settled, Cut, Shrunk}
-use Rattle.claims.proofs.Lists.{all-front, all-back, all-of-map, grown-length}
-use Rattle.claims.proofs.Outcomes.{Ordered, outcome, placed, left-all, shrunk-parts}
+use Rattle.claims.specs.Shrinking.{atop, leaves, left-lines, Packed, Settled, Cut, Shrunk}
+use Rattle.claims.proofs.Lists.{grown-length}
+use Rattle.claims.proofs.Outcomes.{Ordered, outcome, placed}
 use Rattle.claims.proofs.Laid.{length-nodes, formed-ordered, parts-below}
 use Rattle.claims.proofs.Leaving.{leaves-parts}
-use Rattle.claims.proofs.Here.{Base, Over, line-here}
+use Rattle.claims.proofs.Here.{Base, line-here}
 use Rattle.claims.proofs.Agreeing.{simplify-left}
 
 module _ {X : Type 0} where

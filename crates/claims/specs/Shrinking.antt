@@ -15,7 +15,7 @@ use Rattle.formulas.specs.declared.node.DistNode.{DistNode}
 use Rattle.formulas.specs.declared.node.DistNode as dn
 use Rattle.formulas.specs.declared.node.Run.{Run}
 use Rattle.formulas.specs.declared.node.Term.{Term}
-use Rattle.formulas.specs.Lines.{Sort, state, dist, Line, constant, both, non, step, sum, entries, line, lines, Formula}
+use Rattle.formulas.specs.Lines.{Sort, state, Line, constant, both, non, step, sum, entries, line, lines, Formula}
 use Rattle.formulas.specs.declared.node.Fills.{Fills}
 use Rattle.formulas.specs.Layout.{terms-in, alternatives-in, node, node-table, term-table, alternative-table, fills}
 use Rattle.formulas.specs.Right.{Formed}
@@ -24,7 +24,7 @@ use Rattle.claims.specs.declared.settle.Seen.the-variants as see
 use Rattle.claims.specs.WellFormed.{line-at}
 use Rattle.claims.specs.Rows.{no-node}
 use Rattle.claims.specs.Simplified.{blank-node, blank-term, padded, renewed}
-use Rattle.claims.specs.Simplify.{Tone, yes, no, neither, tone, tone-of, Outcome, became, non-line, step-line, sum-line, coefficients, alternatives-left, has-yes, terms-left, yes-part, blank, outcomes, parts, member, retarget, renumber, rank, compact}
+use Rattle.claims.specs.Simplify.{Tone, yes, no, neither, tone-of, Outcome, became, non-line, step-line, sum-line, coefficients, alternatives-left, has-yes, terms-left, yes-part, blank, outcomes, parts, member, renumber, rank, compact}
 
 -- the list with these from the place p on
 abbrev pub put : {X : Type 0} → ℕ → List X → List X → List X

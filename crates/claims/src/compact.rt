@@ -3,7 +3,7 @@ ghost use mathlib.Core.Path.{_≡_};
 ghost use mathlib.Core.Bool.{true};
 ghost use mathlib.Core.List.{map};
 ghost use Prim.Native.Nat.{ℕ, _+_, _^_, _≤_, _<_};
-ghost use lib.ListN.{length, getD, set};
+ghost use lib.ListN.{length, getD};
 ghost use Rattle.std.specs.shelf.Lists.{All};
 ghost use Rattle.formulas.specs.Lines.{step, sum, entries, state-line, dist-line, line, lines};
 ghost use Rattle.formulas.specs.Layout.{node as node-of, terms-in, alternatives-in};

@@ -1,7 +1,7 @@
 // Simplification of a claim's formula in its own tables.
 ghost use mathlib.Core.Path.{_≡_};
 ghost use mathlib.Core.List.{_++_};
-ghost use Prim.Native.Nat.{ℕ, _-_, _^_, _≤_, _<_};
+ghost use Prim.Native.Nat.{_-_, _^_, _≤_, _<_};
 ghost use lib.ListN.{length, take, replicate};
 ghost use Rattle.formulas.specs.Lines.{lines};
 ghost use Rattle.claims.specs.Simplify.{prune, simplify};

@@ -1,6 +1,6 @@
-use mathlib.Core.Path.{_≡_, refl, sym, ap, _∙_, subst}
-use mathlib.Core.List.{map, _++_}
-use Prim.Native.Nat.{ℕ, _+_, _<_}
+use mathlib.Core.Path.{sym, ap, subst}
+use mathlib.Core.List.{map}
+use Prim.Native.Nat.{_<_}
 use native.Mathlib.Omega.{arith}
 use lib.ListN.{length}
 use Rattle.std.specs.shelf.Lists.{All}
@@ -10,7 +10,7 @@ use Rattle.formulas.specs.declared.node.StateNode as sn
 use Rattle.formulas.specs.Lines.{entries}
 use Rattle.formulas.specs.Layout.{run}
 use Rattle.claims.specs.Shrinking.{new-number}
-use Rattle.claims.proofs.Turns.{gap, heres-same, both-moved, length-run}
+use Rattle.claims.proofs.Turns.{heres-same, both-moved, length-run}
 use Rattle.claims.proofs.compact.move_step.Needs as need
 
 pub move-alternatives-end-requires : need.move-alternatives-end-requires

@@ -1,4 +1,4 @@
-use mathlib.Core.Path.{_≡_, sym}
+use mathlib.Core.Path.{sym}
 use Rattle.formulas.specs.declared.node.Node.the-variants.{Dist}
 use Rattle.formulas.specs.declared.node.DistNode as dn
 use Rattle.formulas.specs.Layout.{run}

@@ -1,4 +1,4 @@
-use mathlib.Core.Path.{_≡_, refl, sym, ap, _∙_}
+use mathlib.Core.Path.{refl, sym, ap, _∙_}
 use native.Mathlib.Omega.{arith}
 use Rattle.claims.specs.Simplify.{tone-of, is-neither, retarget}
 use Rattle.claims.specs.Simplified.{blank-term}

@@ -1,11 +1,11 @@
-use mathlib.Core.Path.{_≡_, refl, sym, ap, _∙_, subst}
+use mathlib.Core.Path.{refl, ap, _∙_}
 use mathlib.Core.Bool.{cond}
-use Prim.Native.Nat.{ℕ, _+_, _-_}
+use Prim.Native.Nat.{_+_, _-_}
 use native.Mathlib.Omega.{arith}
-use lib.ListN.{take, length, getD}
+use lib.ListN.{getD}
 use Rattle.std.proofs.shelf.Lists.{take-all}
 use Rattle.std.proofs.shelf.Elements.{all-getD}
-use Rattle.claims.specs.Simplify.{Tone, tone-of, is-yes, is-neither, yes-part, terms-left, coefficients}
+use Rattle.claims.specs.Simplify.{Tone, is-yes, is-neither, yes-part, terms-left, coefficients}
 use Rattle.claims.specs.Simplified.{blank-term}
 use Rattle.claims.specs.Shrinking.{glance, Led}
 use Rattle.claims.proofs.Keeping.{weighed-room, weighed-more}

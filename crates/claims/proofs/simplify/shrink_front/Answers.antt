@@ -1,5 +1,5 @@
 use mathlib.Core.Path.{_≡_, sym, _∙_}
-use Prim.Native.Nat.{ℕ, _-_}
+use Prim.Native.Nat.{_-_}
 use native.Mathlib.Omega.{arith}
 use Rattle.formulas.specs.declared.node.Fills.{Fills}
 use Rattle.claims.proofs.Admitting.{front-packed, front-light, front-nodes, front-numbers, front-renewed}
