@@ -1,26 +1,29 @@
 -- From the test of the tables to what simplify needs.
-use mathlib.Core.Path.{_≡_, sym, ap, subst, _∙_}
+use mathlib.Core.Path.{_≡_, sym, ap, subst, _∙_, ap₂}
 use mathlib.Core.Logic.{⊎-elim}
-use mathlib.Core.Bool.{true, false, _&&_, false≢true}
+use mathlib.Core.Bool.{true, false, _&&_, false≢true, Bool, cond, not}
 use mathlib.Core.List.{List, [], _++_}
 use Prim.Native.Nat.{ℕ, _+_, _-_, _*_, _≤_, _<_}
 use native.Mathlib.Omega.{arith}
-use lib.Dec.{leb}
+use lib.Dec.{leb, ltb}
 use lib.ListN.{length, take, drop}
 use Rattle.std.proofs.shelf.Lists.{append-nil, drop-all, length-take-le, getD-past}
-use Rattle.std.proofs.shelf.Tests.{and-parts, leb-true, cases-lt}
+use Rattle.std.proofs.shelf.Tests.{and-parts, leb-true, cases-lt, le-ltb}
+use Rattle.std.specs.declared.result.Result.the-variants.{Ok, Err}
+use Rattle.claims.specs.declared.claim.Claim.{Claim}
+use Rattle.claims.specs.declared.fault.Refusal.the-variants.{NoFormula, Short}
 use Rattle.formulas.specs.declared.node.Node.{Node}
 use Rattle.formulas.specs.declared.node.Term.{Term}
 use Rattle.formulas.specs.declared.node.Fills.{Fills}
-use Rattle.formulas.specs.Lines.{Line, constant, both, non, step, sum, part, lines}
-use Rattle.formulas.specs.Layout.{node, node-table, term-table, alternative-table, terms-in}
+use Rattle.formulas.specs.Lines.{Line, constant, both, non, step, sum, part, lines, Formula}
+use Rattle.formulas.specs.Layout.{node, node-table, term-table, alternative-table, terms-in, fills}
 use Rattle.formulas.specs.Laws.{Layout-law, Formed-law}
 use Rattle.formulas.specs.Right.{Right, All-right}
 use Rattle.formulas.specs.Stands.{stateSort, no-dist, isState, walk, stands, formula-in}
 use Rattle.claims.specs.WellFormed.{line-at}
 use Rattle.claims.specs.Rows.{no-node}
 use Rattle.claims.specs.Simplify.{coefficients, simplify}
-use Rattle.claims.specs.Simplified.{blank-node, blank-term, padded}
+use Rattle.claims.specs.Simplified.{blank-node, blank-term, padded, Bench, bench, Done, done, simplified, renewed}
 use Rattle.claims.specs.Shrinking.{atop, Packed, Light, Shrunk, Ready-to-shrink, Renewed}
 use Rattle.claims.proofs.Here.{terms-before, alternatives-before, terms-here, node-here}
 use Rattle.claims.proofs.Cutting.{lines-long, base, as-it-is}
@@ -124,3 +127,50 @@ module _ (f : Fills) (root : ℕ) (ns : List Node) (ts : List Term) (alts to : L
 
     pub front-renewed : Gives g
     front-renewed = subst Gives p plain
+
+-- an accepted call: the answer and what is on the bench then
+module _ (c : Claim) (ns : List Node) (ts : List Term) (alts to : List ℕ) where
+  abbrev after : Fills → ℕ → Formula
+  after f r =
+      simplify (record { lines = lines (take (f .nodes) ns) (take (f .terms) ts) (take (f .alternatives) alts); root = r })
+
+  abbrev left-by : Fills → ℕ → Bench
+  left-by f r = record
+    { fills = fills (after f r .lines)
+    ; root = after f r .root
+    ; mass = c .mass
+    ; shared = c .shared
+    ; nodes = renewed (f .nodes) blank-node (node-table 0 0 (after f r .lines)) ns
+    ; terms = renewed (f .terms) blank-term (term-table (after f r .lines)) ts
+    ; alternatives = renewed (f .alternatives) 0 (alternative-table (after f r .lines)) alts
+    ; map = renewed (f .nodes) 0 [] to
+    }
+
+  abbrev chosen : Bool → Bool → Fills → ℕ → Done
+  chosen held short f r =
+      cond (not held) (done (Err NoFormula) (bench c ns ts alts to))
+      (cond short (done (Err Short) (bench c ns ts alts to)) (done (Ok (fills (after f r .lines))) (left-by f r)))
+
+  pub accepted : (f f′ : Fills) (r r′ m : ℕ) (d : Claim) (ns′ : List Node) (ts′ : List Term) (alts′ to′ : List ℕ) → f ≡ c .fills → r ≡ c .root → m ≡ c .mass
+      → formula-in f r m ns ts alts ≡ true → f .nodes ≤ length to → Renewed (after f r) f ns ts alts to f′ r′ ns′ ts′ alts′ to′
+      → d .fills ≡ f′ → d .root ≡ r′ → d .mass ≡ c .mass → d .shared ≡ c .shared → done (Ok f′) (bench d ns′ ts′ alts′ to′) ≡ simplified (bench c ns ts alts to)
+  accepted f f′ r r′ m d ns′ ts′ alts′ to′ pf pr pm held room R df dr dm ds =
+      let used = df ∙ R .used in
+      let root = dr ∙ R .root in
+      let taken : done (Ok f′) (bench d ns′ ts′ alts′ to′) ≡ done (Ok (fills (after f r .lines))) (left-by f r) =
+            λ i. record
+            { answer = Ok (R .used i)
+            ; left = record
+              { fills = used i
+              ; root = root i
+              ; mass = dm i
+              ; shared = ds i
+              ; nodes = R .nodes i
+              ; terms = R .terms i
+              ; alternatives = R .alternatives i
+              ; map = R .numbers i
+              }
+            } in
+      taken
+      ∙ (sym (ap₂ (λ (x y : Bool). chosen x y f r) held (le-ltb (length to) (f .nodes) room))
+      ∙ (λ i. chosen (formula-in (pf i) (pr i) (pm i) ns ts alts) (ltb (length to) (pf i .nodes)) (pf i) (pr i)))

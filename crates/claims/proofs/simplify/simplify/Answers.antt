@@ -2,7 +2,7 @@ use mathlib.Core.Path.{sym, ap, _∙_}
 use Prim.Native.Nat.{_≤_}
 use native.Mathlib.Omega.{arith}
 use Rattle.formulas.specs.declared.node.Fills.{Fills}
-use Rattle.claims.proofs.Admitting.{admitted}
+use Rattle.claims.proofs.Admitting.{admitted, accepted}
 use Rattle.claims.proofs.simplify.simplify.Needs as need
 
 pub shrink-front-standing-requires : need.shrink-front-standing-requires
@@ -19,3 +19,13 @@ shrink-front-standing-requires c κs =
           (sym (c .formula-in .ensures .value) ∙ held) (c .formula-in .ensures .right held) (c .layout-stands .ensures .tables) (c .satisfaction-stands .ensures .formed) n t a m;
       room = c .if-map-fills .left;
     }
+
+pub returns : need.returns
+returns c =
+    let standing = c .shrink-front-standing .result in
+    let held = sym (c .formula-in .ensures .value) ∙ c .if-not-formula-in .left in
+    accepted (c .args .claim .now) (c .args .nodes .now) (c .args .terms .now) (c .args .alternatives .now) (c .args .map .now)
+    (c .fills-fills .result) (standing .used) (c .root-root .result) (standing .root) (c .mass .result) (c .take-up .last .self)
+    (c .shrink-front-standing .last .nodes) (c .shrink-front-standing .last .terms) (c .shrink-front-standing .last .alternatives) (c .shrink-front-standing .last .map)
+    (c .fills-fills .ensures) (c .root-root .ensures) (c .mass .ensures) held (c .if-map-fills .left) (c .shrink-front-standing .ensures)
+    (c .take-up .ensures .fills) (c .take-up .ensures .root) (c .take-up .ensures .mass) (c .take-up .ensures .shared)
