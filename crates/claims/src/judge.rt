@@ -38,10 +38,10 @@ fn some_move<S: System>(
     truth: &[u8],
     row: &mut [u8],
 ) -> bool
-    requires board { Board (meaning system.now) tables upto truth.now (length row.old) }
+    requires board { Board (S.meaning system.now) tables upto truth.now (length row.old) }
     requires clear { Clear upto row.old }
     requires run { Before tables upto run }
-    ensures value { result ≡ any (λ mv. any (λ d. of_node (truths_in (meaning system.now) tables.entry) d mv) (entries tables.entry.alternatives.now run)) ((meaning system.now).moves state action) }
+    ensures value { result ≡ any (λ mv. any (λ d. of_node (truths_in (S.meaning system.now) tables.entry) d mv) (entries tables.entry.alternatives.now run)) ((S.meaning system.now).moves state action) }
     ensures row { row.new ≡ row.old }
 {
     let count = system.moves(state, action);
@@ -72,12 +72,12 @@ fn step_holds<S: System>(
     truth: &[u8],
     row: &mut [u8],
 ) -> bool
-    requires inside { state < (meaning system.now).states }
-    requires board { Board (meaning system.now) tables upto truth.now (length row.old) }
+    requires inside { state < (S.meaning system.now).states }
+    requires board { Board (S.meaning system.now) tables upto truth.now (length row.old) }
     requires clear { Clear upto row.old }
     requires moves { Before tables upto moves }
     requires heres { Before tables upto heres }
-    ensures value { result ≡ (any (λ mv. any (λ d. of_node (truths_in (meaning system.now) tables.entry) d mv) (entries tables.entry.alternatives.now moves)) ((meaning system.now).moves state action) || any (λ d. of_node (truths_in (meaning system.now) tables.entry) d (point (meaning system.now) state)) (entries tables.entry.alternatives.now heres)) }
+    ensures value { result ≡ (any (λ mv. any (λ d. of_node (truths_in (S.meaning system.now) tables.entry) d mv) (entries tables.entry.alternatives.now moves)) ((S.meaning system.now).moves state action) || any (λ d. of_node (truths_in (S.meaning system.now) tables.entry) d (point (S.meaning system.now) state)) (entries tables.entry.alternatives.now heres)) }
     ensures row { row.new ≡ row.old }
 {
     if some_move(system, state, action, tables, upto, moves, truth, row) {
@@ -96,11 +96,11 @@ fn state_holds<S: System>(
     truth: &[u8],
     row: &mut [u8],
 ) -> bool
-    requires inside { state < (meaning system.now).states }
-    requires board { Board (meaning system.now) tables i truth.now (length row.old) }
+    requires inside { state < (S.meaning system.now).states }
+    requires board { Board (S.meaning system.now) tables i truth.now (length row.old) }
     requires clear { Clear i row.old }
     requires right { RightState tables.alternatives.now i node }
-    ensures value { result ≡ holds_at (meaning system.now) (lit truth.now (meaning system.now).states) (of_node (truths_in (meaning system.now) tables.entry)) (state_line tables.entry.alternatives.now node) state }
+    ensures value { result ≡ holds_at (S.meaning system.now) (lit truth.now (S.meaning system.now).states) (of_node (truths_in (S.meaning system.now) tables.entry)) (state_line tables.entry.alternatives.now node) state }
     ensures row { row.new ≡ row.old }
 {
     let n = system.states() as usize;
@@ -127,11 +127,11 @@ fn byte_in<S: System>(
     truth: &[u8],
     row: &mut [u8],
 ) -> u8
-    requires inside { state < (meaning system.now).states }
-    requires board { Board (meaning system.now) tables i truth.now (length row.old) }
+    requires inside { state < (S.meaning system.now).states }
+    requires board { Board (S.meaning system.now) tables i truth.now (length row.old) }
     requires clear { Clear i row.old }
-    requires right { Right tables.terms.now tables.alternatives.now (most_removed (meaning system.now)) i node }
-    ensures value { result ≡ byte (holds_at (meaning system.now) (lit truth.now (meaning system.now).states) (of_node (truths_in (meaning system.now) tables.entry)) (line tables.entry.terms.now tables.entry.alternatives.now node) state) }
+    requires right { Right tables.terms.now tables.alternatives.now (most_removed (S.meaning system.now)) i node }
+    ensures value { result ≡ byte (holds_at (S.meaning system.now) (lit truth.now (S.meaning system.now).states) (of_node (truths_in (S.meaning system.now) tables.entry)) (line tables.entry.terms.now tables.entry.alternatives.now node) state) }
     ensures row { row.new ≡ row.old }
 {
     match node {
@@ -148,11 +148,11 @@ fn byte_in<S: System>(
 
 // Fills in the bytes of node `i`, one for each state.
 fn fill_node<S: System>(system: &S, tables: Tables, i: usize, truth: &mut [u8], row: &mut [u8])
-    requires board { Board (meaning system.now) tables i truth.old (length row.old) }
+    requires board { Board (S.meaning system.now) tables i truth.old (length row.old) }
     requires clear { Clear i row.old }
     requires node { i < length tables.nodes.now }
-    requires room { RowAt (meaning system.now).states (length truth.old) i }
-    ensures truth { truth.new ≡ pasted (i * (meaning system.now).states) (node_bytes (truths_in (meaning system.now) tables.entry) (meaning system.now).states i) truth.old }
+    requires room { RowAt (S.meaning system.now).states (length truth.old) i }
+    ensures truth { truth.new ≡ pasted (i * (S.meaning system.now).states) (node_bytes (truths_in (S.meaning system.now) tables.entry) (S.meaning system.now).states i) truth.old }
     ensures row { row.new ≡ row.old }
 {
     let n = system.states();
@@ -164,11 +164,11 @@ fn fill_node<S: System>(system: &S, tables: Tables, i: usize, truth: &mut [u8], 
 
 // Fills in the bytes of all nodes.
 fn fill_table<S: System>(system: &S, tables: Tables, truth: &mut [u8], row: &mut [u8])
-    requires sits { Sits (meaning system.now) tables }
-    requires room { length tables.nodes.now * (meaning system.now).states ≤ length truth.old }
+    requires sits { Sits (S.meaning system.now) tables }
+    requires room { length tables.nodes.now * (S.meaning system.now).states ≤ length truth.old }
     requires long { length tables.nodes.now ≤ length row.old }
     requires clear { Clear (length tables.nodes.now) row.old }
-    ensures truth { truth.new ≡ over (bytes (truths_in (meaning system.now) tables.entry) (meaning system.now).states (length tables.entry.nodes.now)) truth.old }
+    ensures truth { truth.new ≡ over (bytes (truths_in (S.meaning system.now) tables.entry) (S.meaning system.now).states (length tables.entry.nodes.now)) truth.old }
     ensures row { row.new ≡ row.old }
 {
     let count = tables.nodes.len();
@@ -185,12 +185,12 @@ fn evaluate<S: System>(
     truth: &mut [u8],
     row: &mut [u8],
 ) -> Verdict
-    requires sits { Sits (meaning system.now) tables }
+    requires sits { Sits (S.meaning system.now) tables }
     requires root { root < length tables.nodes.now }
-    requires room { length tables.nodes.now * (meaning system.now).states ≤ length truth.old }
+    requires room { length tables.nodes.now * (S.meaning system.now).states ≤ length truth.old }
     requires long { length tables.nodes.now ≤ length row.old }
-    ensures value { result ≡ verdict (at_node (truths_in (meaning system.now) tables.entry) root 0) }
-    ensures truth { truth.new ≡ over (bytes (truths_in (meaning system.now) tables.entry) (meaning system.now).states (length tables.entry.nodes.now)) truth.old }
+    ensures value { result ≡ verdict (at_node (truths_in (S.meaning system.now) tables.entry) root 0) }
+    ensures truth { truth.new ≡ over (bytes (truths_in (S.meaning system.now) tables.entry) (S.meaning system.now).states (length tables.entry.nodes.now)) truth.old }
     ensures row { row.new ≡ over (replicate (length tables.entry.nodes.now) 0) row.old }
 {
     let span = Span {
@@ -210,9 +210,9 @@ fn decide<S: System>(
     truth: &mut [u8],
     row: &mut [u8],
 ) -> Verdict
-    requires { Passed (meaning system.now) claim.now tables (length truth.old) (length row.old) }
-    ensures value { Ok result ≡ judged (meaning system.now) claim.now (contents tables.entry) (length truth.old) (length row.old) }
-    ensures truth { truth.new ≡ over (truth_bytes (meaning system.now) claim.now (contents tables.entry)) truth.old }
+    requires { Passed (S.meaning system.now) claim.now tables (length truth.old) (length row.old) }
+    ensures value { Ok result ≡ judged (S.meaning system.now) claim.now (contents tables.entry) (length truth.old) (length row.old) }
+    ensures truth { truth.new ≡ over (truth_bytes (S.meaning system.now) claim.now (contents tables.entry)) truth.old }
     ensures row { row.new ≡ over (row_bytes claim.now) row.old }
 {
     let used = front(claim.fills(), tables);
@@ -241,8 +241,8 @@ fn answer<S: System>(
     truth: &mut [u8],
     row: &mut [u8],
 ) -> Result<Verdict, Refusal>
-    ensures value { result ≡ judged (meaning system.now) claim.now (contents tables.entry) (length truth.old) (length row.old) }
-    ensures truth { truth.new ≡ after result (truth_bytes (meaning system.now) claim.now (contents tables.entry)) truth.old }
+    ensures value { result ≡ judged (S.meaning system.now) claim.now (contents tables.entry) (length truth.old) (length row.old) }
+    ensures truth { truth.new ≡ after result (truth_bytes (S.meaning system.now) claim.now (contents tables.entry)) truth.old }
     ensures row { row.new ≡ after result (row_bytes claim.now) row.old }
 {
     let fills = claim.fills();
@@ -276,10 +276,10 @@ pub fn judge<S: System>(
     truth: &mut [u8],
     row: &mut [u8],
 ) -> Result<Verdict, Refusal>
-    ensures value { result ≡ judged (meaning system.now) claim.now (contents tables.entry) (length truth.old) (length row.old) }
-    ensures truth { truth.new ≡ after result (truth_bytes (meaning system.now) claim.now (contents tables.entry)) truth.old }
+    ensures value { result ≡ judged (S.meaning system.now) claim.now (contents tables.entry) (length truth.old) (length row.old) }
+    ensures truth { truth.new ≡ after result (truth_bytes (S.meaning system.now) claim.now (contents tables.entry)) truth.old }
     ensures row { row.new ≡ after result (row_bytes claim.now) row.old }
-    ensures book { (k : Book) → Stands k (stage claim.now (contents tables.entry)) → Said k claim.now (meaning system.now) result × Stands (fed k (entry (judging (meaning system.now)) (is_err result))) (stage claim.now (contents tables.entry)) }
+    ensures book { (k : Book) → Stands k (stage claim.now (contents tables.entry)) → Said k claim.now (S.meaning system.now) result × Stands (fed k (entry (judging (S.meaning system.now)) (is_err result))) (stage claim.now (contents tables.entry)) }
 {
     books_stand();
     answer(claim, tables, system, truth, row)

@@ -1,4 +1,6 @@
 // Claims: a formula with the mass removed from its system, opened from a draft and judged on systems.
+#![tactic(auto)]
+
 pub mod claim;
 pub mod judge;
 pub mod law;

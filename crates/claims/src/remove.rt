@@ -22,7 +22,7 @@ fn answer<S: System>(
     terms: &mut [Term],
     alternatives: &mut [u32],
 ) -> Result<(Claim, Fills), (Claim, Refusal)>
-    ensures { Removes (meaning system.now) claim (contents tables.entry) (slots nodes.old terms.old alternatives.old) result (slots nodes.new terms.new alternatives.new) }
+    ensures { Removes (S.meaning system.now) claim (contents tables.entry) (slots nodes.old terms.old alternatives.old) result (slots nodes.new terms.new alternatives.new) }
 {
     let standing = Standing {
         fills: claim.fills(),
@@ -61,8 +61,8 @@ pub fn remove<S: System>(
     terms: &mut [Term],
     alternatives: &mut [u32],
 ) -> Result<(Claim, Fills), (Claim, Refusal)>
-    ensures outcome { Removes (meaning system.now) claim (contents tables.entry) (slots nodes.old terms.old alternatives.old) result (slots nodes.new terms.new alternatives.new) }
-    ensures book { (k : Book) → Stands k (stage claim (contents tables.entry)) → Stands (fed k (entry (removing (meaning system.now)) (is_err result))) (onward (contents tables.entry) result (slots nodes.new terms.new alternatives.new)) }
+    ensures outcome { Removes (S.meaning system.now) claim (contents tables.entry) (slots nodes.old terms.old alternatives.old) result (slots nodes.new terms.new alternatives.new) }
+    ensures book { (k : Book) → Stands k (stage claim (contents tables.entry)) → Stands (fed k (entry (removing (S.meaning system.now)) (is_err result))) (onward (contents tables.entry) result (slots nodes.new terms.new alternatives.new)) }
 {
     books_stand();
     answer(claim, tables, system, nodes, terms, alternatives)

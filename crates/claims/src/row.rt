@@ -127,9 +127,9 @@ fn dist_value<S: System>(
     row: &[u8],
     node: DistNode,
 ) -> bool
-    requires placed { Placed (meaning system.now) spot }
-    requires ready { ReadyDist (meaning system.now) (length truth.now) (length row.now) terms.now node }
-    ensures { result ≡ holds_of (meaning system.now) (lit truth.now (meaning system.now).states) (λ d _. lit_row row.now d) (dist_line terms.now node) (spot_of (meaning system.now) spot) }
+    requires placed { Placed (S.meaning system.now) spot }
+    requires ready { ReadyDist (S.meaning system.now) (length truth.now) (length row.now) terms.now node }
+    ensures { result ≡ holds_of (S.meaning system.now) (lit truth.now (S.meaning system.now).states) (λ d _. lit_row row.now d) (dist_line terms.now node) (spot_of (S.meaning system.now) spot) }
 {
     match node {
         DistNode::Yes => true,
@@ -152,9 +152,9 @@ fn value_in_row<S: System>(
     row: &[u8],
     node: Node,
 ) -> u8
-    requires placed { Placed (meaning system.now) spot }
-    requires ready { Ready (meaning system.now) (length truth.now) (length row.now) terms.now node }
-    ensures { (alts : List ℕ) → result ≡ row_byte (meaning system.now) terms.now alts truth.now row.now node (spot_of (meaning system.now) spot) }
+    requires placed { Placed (S.meaning system.now) spot }
+    requires ready { Ready (S.meaning system.now) (length truth.now) (length row.now) terms.now node }
+    ensures { (alts : List ℕ) → result ≡ row_byte (S.meaning system.now) terms.now alts truth.now row.now node (spot_of (S.meaning system.now) spot) }
 {
     match node {
         Node::State(_) => 0,
@@ -170,11 +170,11 @@ fn value_in_row<S: System>(
 
 // Replaces a mark at node `j` by the truth of the node.
 fn settle<S: System>(system: &S, spot: Spot, tables: Tables, truth: &[u8], j: usize, row: &mut [u8])
-    requires placed { Placed (meaning system.now) spot }
+    requires placed { Placed (S.meaning system.now) spot }
     requires node { j < length tables.nodes.now }
     requires long { j < length row.old }
-    requires ready { Ready (meaning system.now) (length truth.now) (length row.old) tables.terms.now (slice_index_or tables.nodes.now j no_node) }
-    ensures { row.new ≡ settled (meaning system.now) tables.entry.nodes.now tables.entry.terms.now tables.entry.alternatives.now truth.now (spot_of (meaning system.now) spot) j row.old }
+    requires ready { Ready (S.meaning system.now) (length truth.now) (length row.old) tables.terms.now (slice_index_or tables.nodes.now j no_node) }
+    ensures { row.new ≡ settled (S.meaning system.now) tables.entry.nodes.now tables.entry.terms.now tables.entry.alternatives.now truth.now (spot_of (S.meaning system.now) spot) j row.old }
 {
     if row[j] != MARK {
         return;
@@ -186,11 +186,11 @@ fn settle<S: System>(system: &S, spot: Spot, tables: Tables, truth: &[u8], j: us
 // Replaces the marks by the truths of their nodes, from the lowest up.
 fn fill<S: System>(system: &S, spot: Spot, tables: Tables, truth: &[u8], span: Span, row: &mut [u8])
     requires ordered { span.low ≤ span.high }
-    requires placed { Placed (meaning system.now) spot }
-    requires board { Board (meaning system.now) tables span.high truth.now (length row.old) }
+    requires placed { Placed (S.meaning system.now) spot }
+    requires board { Board (S.meaning system.now) tables span.high truth.now (length row.old) }
     requires bare { (k : ℕ) → k < span.low → Mark row.old k → ⊥ }
     requires closed { (k : ℕ) → k < span.high → Mark row.old k → All (Mark row.old) (parts (slice_index_or tables.nodes.now k no_node)) }
-    ensures { Filling (truths_in (meaning system.now) tables.entry) (spot_of (meaning system.now) spot) span.low span.high row.old row.new }
+    ensures { Filling (truths_in (S.meaning system.now) tables.entry) (spot_of (S.meaning system.now) spot) span.low span.high row.old row.new }
 {
     for j in span.low..span.high {
         settle(system, spot, tables, truth, j, row);
@@ -230,11 +230,11 @@ pub(crate) fn some_holds<S: System>(
     truth: &[u8],
     row: &mut [u8],
 ) -> bool
-    requires placed { Placed (meaning system.now) spot }
-    requires board { Board (meaning system.now) tables upto truth.now (length row.old) }
+    requires placed { Placed (S.meaning system.now) spot }
+    requires board { Board (S.meaning system.now) tables upto truth.now (length row.old) }
     requires clear { Clear upto row.old }
     requires run { Before tables upto run }
-    ensures value { result ≡ any (λ d. of_node (truths_in (meaning system.now) tables.entry) d (spot_of (meaning system.now) spot)) (entries tables.entry.alternatives.now run) }
+    ensures value { result ≡ any (λ d. of_node (truths_in (S.meaning system.now) tables.entry) d (spot_of (S.meaning system.now) spot)) (entries tables.entry.alternatives.now run) }
     ensures row { row.new ≡ row.old }
 {
     let first = run.first as usize;

@@ -14,7 +14,7 @@ pub(crate) enum Spot {
 
 // How many targets there are.
 pub(crate) fn targets<S: System>(system: &S, spot: Spot) -> u32
-    ensures { result ≡ length (spot_of (meaning system.now) spot) }
+    ensures { result ≡ length (spot_of (S.meaning system.now) spot) }
 {
     match spot {
         Spot::Along(state, action, place) => system.targets(state, action, place),
@@ -23,7 +23,7 @@ pub(crate) fn targets<S: System>(system: &S, spot: Spot) -> u32
 }
 
 pub(crate) fn target<S: System>(system: &S, spot: Spot, index: u32) -> Option<Target>
-    ensures { result ≡ slice_get (spot_of (meaning system.now) spot) index }
+    ensures { result ≡ slice_get (spot_of (S.meaning system.now) spot) index }
 {
     match spot {
         Spot::Along(state, action, place) => system.target(state, action, place, index),

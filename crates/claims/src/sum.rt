@@ -50,10 +50,10 @@ fn coefficients_at(terms: &[Term], truth: &[u8], states: usize, state: u32) -> u
 
 // What one target adds to the sum of the terms.
 fn share<S: System>(system: &S, spot: Spot, truth: &[u8], terms: &[Term], index: u32) -> u64
-    requires placed { Placed (meaning system.now) spot }
-    requires ready { ReadyTerms (meaning system.now) (length truth.now) terms.now }
-    requires inside { index < length (spot_of (meaning system.now) spot) }
-    ensures { result ≡ (slice_index_or (spot_of (meaning system.now) spot) index no_target).weight * coefficients_of (λ i. lit truth.now (meaning system.now).states i (slice_index_or (spot_of (meaning system.now) spot) index no_target).state) terms.now }
+    requires placed { Placed (S.meaning system.now) spot }
+    requires ready { ReadyTerms (S.meaning system.now) (length truth.now) terms.now }
+    requires inside { index < length (spot_of (S.meaning system.now) spot) }
+    ensures { result ≡ (slice_index_or (spot_of (S.meaning system.now) spot) index no_target).weight * coefficients_of (λ i. lit truth.now (S.meaning system.now).states i (slice_index_or (spot_of (S.meaning system.now) spot) index no_target).state) terms.now }
 {
     match target(system, spot, index) {
         Some(t) => t.weight * coefficients_at(terms, truth, system.states() as usize, t.state),
@@ -63,9 +63,9 @@ fn share<S: System>(system: &S, spot: Spot, truth: &[u8], terms: &[Term], index:
 
 // The sum of coefficient × weight over the terms: each target is asked for once.
 fn sum_terms<S: System>(system: &S, spot: Spot, truth: &[u8], terms: &[Term]) -> u64
-    requires placed { Placed (meaning system.now) spot }
-    requires ready { ReadyTerms (meaning system.now) (length truth.now) terms.now }
-    ensures { result ≡ total (lit truth.now (meaning system.now).states) terms.now (spot_of (meaning system.now) spot) }
+    requires placed { Placed (S.meaning system.now) spot }
+    requires ready { ReadyTerms (S.meaning system.now) (length truth.now) terms.now }
+    ensures { result ≡ total (lit truth.now (S.meaning system.now).states) terms.now (spot_of (S.meaning system.now) spot) }
 {
     let mut sum = 0;
     let count = targets(system, spot);
@@ -83,9 +83,9 @@ pub(crate) fn sum_holds<S: System>(
     threshold: u64,
     run: Run,
 ) -> bool
-    requires placed { Placed (meaning system.now) spot }
-    requires ready { ReadySum (meaning system.now) (length truth.now) terms.now threshold run }
-    ensures { result ≡ nat_le (threshold * (meaning system.now).mass) (total (lit truth.now (meaning system.now).states) (entries terms.now run) (spot_of (meaning system.now) spot)) }
+    requires placed { Placed (S.meaning system.now) spot }
+    requires ready { ReadySum (S.meaning system.now) (length truth.now) terms.now threshold run }
+    ensures { result ≡ nat_le (threshold * (S.meaning system.now).mass) (total (lit truth.now (S.meaning system.now).states) (entries terms.now run) (spot_of (S.meaning system.now) spot)) }
 {
     let first = run.first as usize;
     let sum = sum_terms(

@@ -12,7 +12,7 @@ use Rattle.formulas.specs.Lines.{state}
 use Rattle.formulas.specs.Reading.{placed, reading}
 use Rattle.formulas.specs.Tables.{Slots, fits}
 use Rattle.formulas.specs.Spelling.{Spells, Allowed, Accepts, Numbers-fit, Coefficients-fit, Sums-short, Parts-short, BeginTerm, Wrong, Refusal}
-use Rattle.formulas.specs.Trees.{Tree, leaf, conj, neg, dia, here, at_least, Products, none, product, spell, Of-sort, In-range, In-ranges, depth, lay}
+use Rattle.formulas.specs.Trees.{Tree, leaf, conj, neg, dia, here, at_least, Products, none, product, spell, Of-sort, In-range, In-ranges, lay}
 use Rattle.formulas.proofs.Written.{Toks, write, write-spell, told}
 use Rattle.formulas.proofs.Outcomes.{Limits, free, numbers, sizes, toks, Begins, Starts, Cause, Right}
 use Rattle.formulas.proofs.Languages.{Said, Within}

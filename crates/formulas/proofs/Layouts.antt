@@ -11,7 +11,7 @@ use Rattle.formulas.specs.declared.node.Run.{Run}
 use Rattle.formulas.specs.declared.node.Term.{Term}
 use Rattle.formulas.specs.Lines.{state, dist, Line, constant, both, non, step, sum, part, line, lines}
 use Rattle.formulas.specs.Layout.{run, node, node_table, terms_in, term_table, alternatives_in, alternative_table}
-use Rattle.formulas.specs.Stands.{node_ok, terms_of, alternatives_of, walk, is_state_node, stands}
+use Rattle.formulas.specs.Stands.{node_ok, terms_of, alternatives_of, walk, is_state_node}
 use Rattle.formulas.specs.Laws.{LayoutLaw, LinesLaw}
 use Rattle.formulas.proofs.Fits.{Fit, step_of, sum_of, part_add, terms-within, alternatives-within}
 

@@ -8,7 +8,7 @@ use Rattle.formulas.specs.declared.lexer.Start.TheVariants.{Constant, Inside}
 use Rattle.formulas.specs.declared.token.Token.{Token}
 use Rattle.formulas.specs.declared.token.Token.TheVariants.{Open, Close, True, False, And, Not, Dia, Here, Prob, AtLeast, Plus, Times, Numeral}
 use Rattle.formulas.specs.declared.words.Words.{Words}
-use Rattle.formulas.specs.Grammar.{Item, then, ranged, is, code, value, nought, misplaced, too_many}
+use Rattle.formulas.specs.Grammar.{Item, then, ranged, code, value, nought, misplaced, too_many}
 use Rattle.formulas.specs.Readers.{behind, starting, sum_starting, following, confirmed, prob_starting, in_range, Takes, Itself}
 use Rattle.formulas.proofs.Codes.{is-not}
 use Rattle.formulas.proofs.Taking.{nothing_read, refused, as_if}

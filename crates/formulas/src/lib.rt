@@ -1,4 +1,6 @@
 // Formulas: their tables, what they say of a system, and how one is read from text.
+#![tactic(auto)]
+
 pub mod append;
 pub mod draft;
 pub mod fault;

@@ -1,4 +1,6 @@
 // Checks promises about probabilistic job systems: runs job files, and prints each action with its answer.
+#![tactic(auto)]
+
 mod case;
 mod refused;
 mod session;

@@ -302,7 +302,7 @@ impl Session {
             }
         }
         if words.len() % 2 == 0 {
-            return Err(WRONG_STACK.into());
+            return Err(anyhow!(WRONG_STACK));
         }
         Ok(stack)
     }
@@ -336,7 +336,7 @@ impl Session {
             Answer::Said(Verdict::Yes) => println!(rt; "{written}: yes")?,
             Answer::Said(Verdict::No) => println!(rt; "{written}: no")?,
             Answer::Refused(refused) => print_refusal(rt, written.as_str(), refused)?,
-            Answer::TooMany => return Err(WRONG_STACK.into()),
+            Answer::TooMany => return Err(anyhow!(WRONG_STACK)),
         }
         Ok(())
     }

@@ -2,6 +2,7 @@
 ghost use Rattle.std.specs.Prelude.{◌≡◌, IfOk, Some};
 ghost use Rattle.formulas.specs.Tokens.{numeral_of};
 
+use anyhow::anyhow;
 use formulas::tokens::numeral;
 use std::alloc::{AllocError, Global};
 use systems::actions::ActionSet;
@@ -44,7 +45,7 @@ pub fn promise_text(line: &str) -> Option<&str> {
 // A message about a word that cannot be understood.
 pub fn misread(heap: Global, what: &str, word: &str) -> anyhow::Error {
     match format!(in heap; "{what} '{word}'") {
-        Ok(text) => text.into(),
+        Ok(text) => anyhow!(text),
         Err(fault) => fault.into(),
     }
 }

@@ -7,8 +7,8 @@ use Rattle.systems.specs.Piles.{cross, pair, moves_over, pile}
 use Rattle.formulas.specs.declared.node.Term.{Term}
 use Rattle.formulas.specs.Laws.{CourseLaw}
 use Rattle.formulas.specs.Lines.{Sort, state, dist, Line, constant, both, non, step, sum, sort}
-use Rattle.formulas.specs.Truths.{Truth, truth, truths, at_node, weigh, total, any, holds}
-use Rattle.quotient.specs.Quotient.{rows, row, first_row, move_rows, width, place, places, move_places, new_step, new_term, new_line, quotient_lines, quotient}
+use Rattle.formulas.specs.Truths.{Truth, truth, truths, at_node, weigh, total, any}
+use Rattle.quotient.specs.Quotient.{rows, row, first_row, move_rows, width, place, places, move_places, new_step, new_term, new_line, quotient_lines}
 use Rattle.quotient.specs.Theorems.{Into, QuotientLaw, QuotientAt}
 use Rattle.formulas.specs.WellFormed.{line_at, Part, Fits, Fitting}
 use Rattle.quotient.proofs.Lists.{each, or_left, or_assoc, any_append, any-on, any-map, any_swap, any-cross, any-counting, sumBy-on, sumBy-mul, sumBy-cross}

@@ -1,12 +1,12 @@
 -- Piles and stacks of systems in shape are in shape, and so is a system that keeps the rules.
-use Rattle.std.proofs.Common.{ℕ, ◌+◌, ◌*◌, ◌/◌, ◌%◌, ◌<◌, ◌≤◌, Bool, ltb, List, [], ◌∷◌, ◌++◌, map, length, get_or, arith}
+use Rattle.std.proofs.Common.{ℕ, ◌*◌, ◌/◌, ◌%◌, ◌<◌, ◌≤◌, Bool, ltb, List, [], ◌∷◌, ◌++◌, map, length, get_or, arith}
 use native.Mathlib.Nat.{one-le-mul}
 use Rattle.std.specs.List.{AllByRecursion as All}
 use Rattle.std.proofs.ByRecursion.{All-append, All-map, All-weaker, All-get_or}
 use Rattle.std.proofs.lemmas.Bool.{ltb-true, cond_both}
 use Rattle.std.proofs.lemmas.Nat.{div_below, mod_below}
 use Rattle.systems.specs.Meaning.{Meaning, Move, Shaped, Aimed, Good, Ruled, point}
-use Rattle.systems.specs.Piles.{cross, over, pair, moves_over, pile_moves, pile}
+use Rattle.systems.specs.Piles.{cross, pair, moves_over, pile_moves, pile}
 use Rattle.systems.specs.Stacks.{stack}
 use Rattle.quotient.specs.Theorems.{Into, ShapeLaw}
 use Rattle.quotient.proofs.Lists.{all_cross}

@@ -21,13 +21,13 @@ const MOST_MASS: u128 = 1000000000000000;
 const MOST_NODES: usize = 1048576;
 
 fn too_large<S: System>(system: &S) -> bool
-    ensures { result ≡ (nat_lt 4096 (meaning system.now).states || nat_lt 4096 (meaning system.now).breadth) }
+    ensures { result ≡ (nat_lt 4096 (S.meaning system.now).states || nat_lt 4096 (S.meaning system.now).breadth) }
 {
     MOST_STATES < system.states() || MOST_STATES < system.breadth()
 }
 
 fn too_heavy<S: System>(removed: u64, system: &S) -> bool
-    ensures { result ≡ nat_lt 1000000000000000 (removed * (meaning system.now).mass) }
+    ensures { result ≡ nat_lt 1000000000000000 (removed * (S.meaning system.now).mass) }
 {
     MOST_MASS < removed as u128 * system.mass() as u128
 }
@@ -42,9 +42,9 @@ fn divide_whole<S: System>(
     terms: &mut [Term],
     alternatives: &mut [u32],
 ) -> Result<Standing, Refusal>
-    requires { Dividable (meaning system.now) used root }
-    ensures value { result ≡ placed (whole_remainder shared (meaning system.now) used.entry root) (slots nodes.old terms.old alternatives.old) }
-    ensures tables { slots nodes.new terms.new alternatives.new ≡ afterwards result (whole_remainder shared (meaning system.now) used.entry root) (slots nodes.old terms.old alternatives.old) }
+    requires { Dividable (S.meaning system.now) used root }
+    ensures value { result ≡ placed (whole_remainder shared (S.meaning system.now) used.entry root) (slots nodes.old terms.old alternatives.old) }
+    ensures tables { slots nodes.new terms.new alternatives.new ≡ afterwards result (whole_remainder shared (S.meaning system.now) used.entry root) (slots nodes.old terms.old alternatives.old) }
 {
     layout_stands();
     tables_stand();
@@ -102,8 +102,8 @@ pub fn divide<S: System>(
     terms: &mut [Term],
     alternatives: &mut [u32],
 ) -> Result<Standing, Refusal>
-    ensures value { result ≡ divided shared (meaning system.now) standing.fills standing.root mass (contents tables.entry) (slots nodes.old terms.old alternatives.old) }
-    ensures tables { slots nodes.new terms.new alternatives.new ≡ afterwards result (remainder shared (meaning system.now) standing.fills standing.root (contents tables.entry)) (slots nodes.old terms.old alternatives.old) }
+    ensures value { result ≡ divided shared (S.meaning system.now) standing.fills standing.root mass (contents tables.entry) (slots nodes.old terms.old alternatives.old) }
+    ensures tables { slots nodes.new terms.new alternatives.new ≡ afterwards result (remainder shared (S.meaning system.now) standing.fills standing.root (contents tables.entry)) (slots nodes.old terms.old alternatives.old) }
 {
     if !formula_in(
         standing.fills,

@@ -1,4 +1,6 @@
 // Quotients: what a formula says of a system over others, said of the others alone.
+#![tactic(auto)]
+
 pub mod divide;
 mod need;
 mod plan;

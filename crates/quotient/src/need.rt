@@ -14,7 +14,7 @@ const MOST_ENTRIES: u64 = 1048576;
 
 // The targets of the moves of a state on an action.
 fn targets_on<S: System>(system: &S, state: u32, action: u32) -> u64
-    ensures { result ≡ topped (targets_on (meaning system.now) state action) }
+    ensures { result ≡ topped (targets_on (S.meaning system.now) state action) }
 {
     let mut sum: u64 = 0;
     let count = system.moves(state, action);
@@ -26,7 +26,7 @@ fn targets_on<S: System>(system: &S, state: u32, action: u32) -> u64
 
 // The targets of the moves of a state.
 fn targets_from<S: System>(system: &S, state: u32) -> u64
-    ensures { result ≡ topped (targets_from (meaning system.now) state) }
+    ensures { result ≡ topped (targets_from (S.meaning system.now) state) }
 {
     let mut sum: u64 = 0;
     for action in 0..ACTIONS {
@@ -37,7 +37,7 @@ fn targets_from<S: System>(system: &S, state: u32) -> u64
 
 // The targets of all rows.
 fn all_targets<S: System>(system: &S) -> u64
-    ensures { result ≡ topped (all_targets (meaning system.now)) }
+    ensures { result ≡ topped (all_targets (S.meaning system.now)) }
 {
     let n = system.states();
     let mut sum = n as u64;
@@ -50,7 +50,7 @@ fn all_targets<S: System>(system: &S) -> u64
 // The terms of the quotient of a formula that has so many: each gives one for each target of a row.
 // Without terms there may be far more rows than lines, so then no target is counted.
 pub(crate) fn terms_need<S: System>(system: &S, terms: usize) -> u64
-    ensures { result ≡ topped (terms * all_targets (meaning system.now)) }
+    ensures { result ≡ topped (terms * all_targets (S.meaning system.now)) }
 {
     if terms == 0 {
         return 0;
@@ -72,7 +72,7 @@ fn step_need(shared: bool, m: u32, h: u32, k: u32) -> u64
 
 // The alternatives that it gives in all states.
 fn steps_need<S: System>(system: &S, shared: bool, action: u32, m: u32, h: u32) -> u64
-    ensures { result ≡ topped (steps_need (meaning system.now) shared action m h) }
+    ensures { result ≡ topped (steps_need (S.meaning system.now) shared action m h) }
 {
     let n = system.states();
     let mut sum: u64 = 0;
@@ -84,7 +84,7 @@ fn steps_need<S: System>(system: &S, shared: bool, action: u32, m: u32, h: u32) 
 
 // The alternatives that a node gives.
 fn alternative_need<S: System>(system: &S, shared: ActionSet, node: Node) -> u64
-    ensures { result ≡ topped (alternative_need (has shared) (meaning system.now) node) }
+    ensures { result ≡ topped (alternative_need (has shared) (S.meaning system.now) node) }
 {
     match node {
         Node::State(
@@ -106,7 +106,7 @@ fn alternative_need<S: System>(system: &S, shared: ActionSet, node: Node) -> u64
 
 // The alternatives that all nodes give.
 pub(crate) fn alternatives_need<S: System>(system: &S, shared: ActionSet, nodes: &[Node]) -> u64
-    ensures { result ≡ topped (sum_by (alternative_need (has shared) (meaning system.now)) nodes.now) }
+    ensures { result ≡ topped (sum_by (alternative_need (has shared) (S.meaning system.now)) nodes.now) }
 {
     let mut sum: u64 = 0;
     for node in nodes {

@@ -29,12 +29,12 @@ pub(crate) struct Plan<'a> {
 
 // Fills in the row of the first move of each state on each action, and answers the number of all rows.
 pub(crate) fn fill_firsts<S: System>(system: &S, firsts: &mut [u32]) -> u32
-    requires few { (meaning system.now).states ≤ 4096 }
-    requires narrow { (meaning system.now).breadth ≤ 4096 }
-    requires long { (meaning system.now).states * 32 ≤ length firsts.old }
-    ensures rows { result ≡ length (all_rows (meaning system.now)) }
+    requires few { (S.meaning system.now).states ≤ 4096 }
+    requires narrow { (S.meaning system.now).breadth ≤ 4096 }
+    requires long { (S.meaning system.now).states * 32 ≤ length firsts.old }
+    ensures rows { result ≡ length (all_rows (S.meaning system.now)) }
     ensures small { result ≤ 1073741824 }
-    ensures firsts { Firsts (meaning system.now) firsts.new ((meaning system.now).states * 32) }
+    ensures firsts { Firsts (S.meaning system.now) firsts.new ((S.meaning system.now).states * 32) }
 {
     let n = system.states();
     let mut next = n;

@@ -127,11 +127,11 @@ fn put_step<S: System>(
     nodes: &mut AppendList<Node>,
     alternatives: &mut AppendList<u32>,
 )
-    requires planned { Planned (meaning system.now) plan }
-    requires inside { p < (meaning system.now).states }
+    requires planned { Planned (S.meaning system.now) plan }
+    requires inside { p < (S.meaning system.now).states }
     requires fit { Fit plan (Node.State (StateNode.Step action moves heres)) }
     ensures lent { (nodes.new.slots.ghost_name ≡ nodes.old.slots.ghost_name) × (alternatives.new.slots.ghost_name ≡ alternatives.old.slots.ghost_name) }
-    ensures wrote { (ts : Table Term) → stored (table nodes.new) ts (table alternatives.new) ≡ lay (stored (table nodes.old) ts (table alternatives.old)) (node_line (meaning system.now) plan.entry (Node.State (StateNode.Step action moves heres)) p) }
+    ensures wrote { (ts : Table Term) → stored (table nodes.new) ts (table alternatives.new) ≡ lay (stored (table nodes.old) ts (table alternatives.old)) (node_line (S.meaning system.now) plan.entry (Node.State (StateNode.Step action moves heres)) p) }
 {
     let shared = plan.shared.contains(action);
     let count = system.moves(p, action);
@@ -170,10 +170,10 @@ fn put_steps<S: System>(
     nodes: &mut AppendList<Node>,
     alternatives: &mut AppendList<u32>,
 )
-    requires planned { Planned (meaning system.now) plan }
+    requires planned { Planned (S.meaning system.now) plan }
     requires fit { Fit plan (Node.State (StateNode.Step action moves heres)) }
     ensures lent { (nodes.new.slots.ghost_name ≡ nodes.old.slots.ghost_name) × (alternatives.new.slots.ghost_name ≡ alternatives.old.slots.ghost_name) }
-    ensures wrote { (ts : Table Term) → stored (table nodes.new) ts (table alternatives.new) ≡ lay_all (stored (table nodes.old) ts (table alternatives.old)) (node_lines (meaning system.now) plan.entry (Node.State (StateNode.Step action moves heres))) }
+    ensures wrote { (ts : Table Term) → stored (table nodes.new) ts (table alternatives.new) ≡ lay_all (stored (table nodes.old) ts (table alternatives.old)) (node_lines (S.meaning system.now) plan.entry (Node.State (StateNode.Step action moves heres))) }
 {
     for p in 0..plan.states {
         put_step(system, plan, p, action, moves, heres, nodes, alternatives);
@@ -247,10 +247,10 @@ fn put_sums_here<S: System>(
     nodes: &mut AppendList<Node>,
     terms: &mut AppendList<Term>,
 )
-    requires planned { Planned (meaning system.now) plan }
+    requires planned { Planned (S.meaning system.now) plan }
     requires fit { Fit plan (Node.Dist (DistNode.Sum threshold run)) }
     ensures lent { (nodes.new.slots.ghost_name ≡ nodes.old.slots.ghost_name) × (terms.new.slots.ghost_name ≡ terms.old.slots.ghost_name) }
-    ensures wrote { (alts : Table ℕ) → stored (table nodes.new) (table terms.new) alts ≡ lay_all (stored (table nodes.old) (table terms.old) alts) (map (λ p. sum_at plan.entry threshold (entries plan.entry.terms.now run) (point (meaning system.now) p)) (range_with_len 0 (meaning system.now).states)) }
+    ensures wrote { (alts : Table ℕ) → stored (table nodes.new) (table terms.new) alts ≡ lay_all (stored (table nodes.old) (table terms.old) alts) (map (λ p. sum_at plan.entry threshold (entries plan.entry.terms.now run) (point (S.meaning system.now) p)) (range_with_len 0 (S.meaning system.now).states)) }
 {
     for p in 0..plan.states {
         let here = [Target {
@@ -263,8 +263,8 @@ fn put_sums_here<S: System>(
 
 // A target that is there.
 fn target_at<S: System>(system: &S, state: u32, action: u32, number: u32, index: u32) -> Target
-    requires { index < length (slice_index_or ((meaning system.now).moves state action) number []) }
-    ensures { result ≡ slice_index_or (slice_index_or ((meaning system.now).moves state action) number []) index no_target }
+    requires { index < length (slice_index_or ((S.meaning system.now).moves state action) number []) }
+    ensures { result ≡ slice_index_or (slice_index_or ((S.meaning system.now).moves state action) number []) index no_target }
 {
     match system.target(state, action, number, index) {
         Some(t) => t,
@@ -280,9 +280,9 @@ fn read_targets<S: System>(
     number: u32,
     buffer: &mut [Target],
 ) -> u32
-    requires room { length (slice_index_or ((meaning system.now).moves state action) number []) ≤ length buffer.old }
-    ensures count { result ≡ length (slice_index_or ((meaning system.now).moves state action) number []) }
-    ensures read { take (length (slice_index_or ((meaning system.now).moves state action) number [])) buffer.new ≡ slice_index_or ((meaning system.now).moves state action) number [] }
+    requires room { length (slice_index_or ((S.meaning system.now).moves state action) number []) ≤ length buffer.old }
+    ensures count { result ≡ length (slice_index_or ((S.meaning system.now).moves state action) number []) }
+    ensures read { take (length (slice_index_or ((S.meaning system.now).moves state action) number [])) buffer.new ≡ slice_index_or ((S.meaning system.now).moves state action) number [] }
 {
     let count = system.targets(state, action, number);
     for index in 0..count {
@@ -304,12 +304,12 @@ fn put_sum_along<S: System>(
     nodes: &mut AppendList<Node>,
     terms: &mut AppendList<Term>,
 )
-    requires planned { Planned (meaning system.now) plan }
-    requires inside { number < length ((meaning system.now).moves state action) }
+    requires planned { Planned (S.meaning system.now) plan }
+    requires inside { number < length ((S.meaning system.now).moves state action) }
     requires fit { Fit plan (Node.Dist (DistNode.Sum threshold run)) }
     requires room { 4096 ≤ length buffer.old }
     ensures lent { (nodes.new.slots.ghost_name ≡ nodes.old.slots.ghost_name) × (terms.new.slots.ghost_name ≡ terms.old.slots.ghost_name) }
-    ensures wrote { (alts : Table ℕ) → stored (table nodes.new) (table terms.new) alts ≡ lay (stored (table nodes.old) (table terms.old) alts) (sum_at plan.entry threshold (entries plan.entry.terms.now run) (slice_index_or ((meaning system.now).moves state action) number [])) }
+    ensures wrote { (alts : Table ℕ) → stored (table nodes.new) (table terms.new) alts ≡ lay (stored (table nodes.old) (table terms.old) alts) (sum_at plan.entry threshold (entries plan.entry.terms.now run) (slice_index_or ((S.meaning system.now).moves state action) number [])) }
 {
     let count = read_targets(system, state, action, number, buffer);
     let targets = &buffer[0..count as usize];
@@ -328,11 +328,11 @@ fn put_sums_on<S: System>(
     nodes: &mut AppendList<Node>,
     terms: &mut AppendList<Term>,
 )
-    requires planned { Planned (meaning system.now) plan }
+    requires planned { Planned (S.meaning system.now) plan }
     requires fit { Fit plan (Node.Dist (DistNode.Sum threshold run)) }
     requires room { 4096 ≤ length buffer.old }
     ensures lent { (nodes.new.slots.ghost_name ≡ nodes.old.slots.ghost_name) × (terms.new.slots.ghost_name ≡ terms.old.slots.ghost_name) }
-    ensures wrote { (alts : Table ℕ) → stored (table nodes.new) (table terms.new) alts ≡ lay_all (stored (table nodes.old) (table terms.old) alts) (map (sum_at plan.entry threshold (entries plan.entry.terms.now run)) ((meaning system.now).moves state action)) }
+    ensures wrote { (alts : Table ℕ) → stored (table nodes.new) (table terms.new) alts ≡ lay_all (stored (table nodes.old) (table terms.old) alts) (map (sum_at plan.entry threshold (entries plan.entry.terms.now run)) ((S.meaning system.now).moves state action)) }
 {
     let count = system.moves(state, action);
     for k in 0..count {
@@ -353,11 +353,11 @@ fn put_sums_from<S: System>(
     nodes: &mut AppendList<Node>,
     terms: &mut AppendList<Term>,
 )
-    requires planned { Planned (meaning system.now) plan }
+    requires planned { Planned (S.meaning system.now) plan }
     requires fit { Fit plan (Node.Dist (DistNode.Sum threshold run)) }
     requires room { 4096 ≤ length buffer.old }
     ensures lent { (nodes.new.slots.ghost_name ≡ nodes.old.slots.ghost_name) × (terms.new.slots.ghost_name ≡ terms.old.slots.ghost_name) }
-    ensures wrote { (alts : Table ℕ) → stored (table nodes.new) (table terms.new) alts ≡ lay_all (stored (table nodes.old) (table terms.old) alts) (map (sum_at plan.entry threshold (entries plan.entry.terms.now run)) (moves_of (meaning system.now) state)) }
+    ensures wrote { (alts : Table ℕ) → stored (table nodes.new) (table terms.new) alts ≡ lay_all (stored (table nodes.old) (table terms.old) alts) (map (sum_at plan.entry threshold (entries plan.entry.terms.now run)) (moves_of (S.meaning system.now) state)) }
 {
     for action in 0..ACTIONS {
         put_sums_on(
@@ -376,11 +376,11 @@ fn put_sums_along<S: System>(
     nodes: &mut AppendList<Node>,
     terms: &mut AppendList<Term>,
 )
-    requires planned { Planned (meaning system.now) plan }
+    requires planned { Planned (S.meaning system.now) plan }
     requires fit { Fit plan (Node.Dist (DistNode.Sum threshold run)) }
     requires room { 4096 ≤ length buffer.old }
     ensures lent { (nodes.new.slots.ghost_name ≡ nodes.old.slots.ghost_name) × (terms.new.slots.ghost_name ≡ terms.old.slots.ghost_name) }
-    ensures wrote { (alts : Table ℕ) → stored (table nodes.new) (table terms.new) alts ≡ lay_all (stored (table nodes.old) (table terms.old) alts) (map (sum_at plan.entry threshold (entries plan.entry.terms.now run)) (flat_map (moves_of (meaning system.now)) (range_with_len 0 (meaning system.now).states))) }
+    ensures wrote { (alts : Table ℕ) → stored (table nodes.new) (table terms.new) alts ≡ lay_all (stored (table nodes.old) (table terms.old) alts) (map (sum_at plan.entry threshold (entries plan.entry.terms.now run)) (flat_map (moves_of (S.meaning system.now)) (range_with_len 0 (S.meaning system.now).states))) }
 {
     for p in 0..plan.states {
         put_sums_from(system, plan, p, threshold, run, buffer, nodes, terms);
@@ -397,11 +397,11 @@ fn put_sums<S: System>(
     nodes: &mut AppendList<Node>,
     terms: &mut AppendList<Term>,
 )
-    requires planned { Planned (meaning system.now) plan }
+    requires planned { Planned (S.meaning system.now) plan }
     requires fit { Fit plan (Node.Dist (DistNode.Sum threshold run)) }
     requires room { 4096 ≤ length buffer.old }
     ensures lent { (nodes.new.slots.ghost_name ≡ nodes.old.slots.ghost_name) × (terms.new.slots.ghost_name ≡ terms.old.slots.ghost_name) }
-    ensures wrote { (alts : Table ℕ) → stored (table nodes.new) (table terms.new) alts ≡ lay_all (stored (table nodes.old) (table terms.old) alts) (node_lines (meaning system.now) plan.entry (Node.Dist (DistNode.Sum threshold run))) }
+    ensures wrote { (alts : Table ℕ) → stored (table nodes.new) (table terms.new) alts ≡ lay_all (stored (table nodes.old) (table terms.old) alts) (node_lines (S.meaning system.now) plan.entry (Node.Dist (DistNode.Sum threshold run))) }
 {
     put_sums_here(system, plan, threshold, run, nodes, terms);
     put_sums_along(system, plan, threshold, run, buffer, nodes, terms);
@@ -481,10 +481,10 @@ fn put_state<S: System>(
     nodes: &mut AppendList<Node>,
     alternatives: &mut AppendList<u32>,
 )
-    requires planned { Planned (meaning system.now) plan }
+    requires planned { Planned (S.meaning system.now) plan }
     requires fit { Fit plan (Node.State node) }
     ensures lent { (nodes.new.slots.ghost_name ≡ nodes.old.slots.ghost_name) × (alternatives.new.slots.ghost_name ≡ alternatives.old.slots.ghost_name) }
-    ensures wrote { (ts : Table Term) → stored (table nodes.new) ts (table alternatives.new) ≡ lay_all (stored (table nodes.old) ts (table alternatives.old)) (node_lines (meaning system.now) plan.entry (Node.State node)) }
+    ensures wrote { (ts : Table Term) → stored (table nodes.new) ts (table alternatives.new) ≡ lay_all (stored (table nodes.old) ts (table alternatives.old)) (node_lines (S.meaning system.now) plan.entry (Node.State node)) }
 {
     match node {
         StateNode::Step {
@@ -505,11 +505,11 @@ fn put_dist<S: System>(
     nodes: &mut AppendList<Node>,
     terms: &mut AppendList<Term>,
 )
-    requires planned { Planned (meaning system.now) plan }
+    requires planned { Planned (S.meaning system.now) plan }
     requires fit { Fit plan (Node.Dist node) }
     requires room { 4096 ≤ length buffer.old }
     ensures lent { (nodes.new.slots.ghost_name ≡ nodes.old.slots.ghost_name) × (terms.new.slots.ghost_name ≡ terms.old.slots.ghost_name) }
-    ensures wrote { (alts : Table ℕ) → stored (table nodes.new) (table terms.new) alts ≡ lay_all (stored (table nodes.old) (table terms.old) alts) (node_lines (meaning system.now) plan.entry (Node.Dist node)) }
+    ensures wrote { (alts : Table ℕ) → stored (table nodes.new) (table terms.new) alts ≡ lay_all (stored (table nodes.old) (table terms.old) alts) (node_lines (S.meaning system.now) plan.entry (Node.Dist node)) }
 {
     match node {
         DistNode::Sum {
@@ -530,11 +530,11 @@ fn put_node<S: System>(
     terms: &mut AppendList<Term>,
     alternatives: &mut AppendList<u32>,
 )
-    requires planned { Planned (meaning system.now) plan }
+    requires planned { Planned (S.meaning system.now) plan }
     requires fit { Fit plan node }
     requires room { 4096 ≤ length buffer.old }
     ensures lent { (nodes.new.slots.ghost_name ≡ nodes.old.slots.ghost_name) × (terms.new.slots.ghost_name ≡ terms.old.slots.ghost_name) × (alternatives.new.slots.ghost_name ≡ alternatives.old.slots.ghost_name) }
-    ensures wrote { store nodes.new terms.new alternatives.new ≡ lay_all (store nodes.old terms.old alternatives.old) (node_lines (meaning system.now) plan.entry node) }
+    ensures wrote { store nodes.new terms.new alternatives.new ≡ lay_all (store nodes.old terms.old alternatives.old) (node_lines (S.meaning system.now) plan.entry node) }
 {
     match node {
         Node::State(x) => put_state(system, plan, x, nodes, alternatives),
@@ -551,11 +551,11 @@ fn put_nodes<S: System>(
     terms: &mut AppendList<Term>,
     alternatives: &mut AppendList<u32>,
 )
-    requires planned { Planned (meaning system.now) plan }
+    requires planned { Planned (S.meaning system.now) plan }
     requires fit { (i : ℕ) (d : Node) → i < length (plan_nodes plan) → Fit plan (slice_index_or (plan_nodes plan) i d) }
     requires room { 4096 ≤ length buffer.old }
     ensures lent { (nodes.new.slots.ghost_name ≡ nodes.old.slots.ghost_name) × (terms.new.slots.ghost_name ≡ terms.old.slots.ghost_name) × (alternatives.new.slots.ghost_name ≡ alternatives.old.slots.ghost_name) }
-    ensures wrote { store nodes.new terms.new alternatives.new ≡ lay_all (store nodes.old terms.old alternatives.old) (plan_quotient (meaning system.now) plan.entry) }
+    ensures wrote { store nodes.new terms.new alternatives.new ≡ lay_all (store nodes.old terms.old alternatives.old) (plan_quotient (S.meaning system.now) plan.entry) }
 {
     let count = plan.nodes.len();
     for i in 0..count {
@@ -579,10 +579,10 @@ pub(crate) fn write<S: System>(
     terms: &mut [Term],
     alternatives: &mut [u32],
 )
-    requires planned { Planned (meaning system.now) plan }
+    requires planned { Planned (S.meaning system.now) plan }
     requires fit { (i : ℕ) (d : Node) → i < length (plan_nodes plan) → Fit plan (slice_index_or (plan_nodes plan) i d) }
-    requires room { fits (fills (plan_quotient (meaning system.now) plan)) (slots nodes.old terms.old alternatives.old) ≡ true }
-    ensures { slots nodes.new terms.new alternatives.new ≡ laid (plan_quotient (meaning system.now) plan.entry) (slots nodes.old terms.old alternatives.old) }
+    requires room { fits (fills (plan_quotient (S.meaning system.now) plan)) (slots nodes.old terms.old alternatives.old) ≡ true }
+    ensures { slots nodes.new terms.new alternatives.new ≡ laid (plan_quotient (S.meaning system.now) plan.entry) (slots nodes.old terms.old alternatives.old) }
 {
     let mut buffer = [NO_TARGET; MOST_TARGETS];
     let mut node_list = AppendList::new(nodes);

@@ -7,7 +7,7 @@ use Rattle.std.proofs.ByRecursion.{All-weaker}
 use Rattle.std.proofs.lemmas.Bool.{eq-eqb, ne_eqb, cases_eq, cases_lt}
 use Rattle.formulas.specs.declared.node.Fills.{Fills}
 use Rattle.formulas.specs.Lines.{Line, constant, both, non, step, sum, line}
-use Rattle.formulas.specs.Layout.{node, term_table, alternative_table, fills}
+use Rattle.formulas.specs.Layout.{term_table, alternative_table, fills}
 use Rattle.formulas.specs.Tables.{Slots, laid}
 use Rattle.formulas.specs.WellFormed.{line_at}
 use Rattle.simplification.specs.Simplify.{parts, retarget, renumber, rank}

@@ -1,4 +1,6 @@
 // Simplification of formulas: in their tables, what it keeps, and what it comes to.
+#![tactic(auto)]
+
 mod blank;
 mod compact;
 pub mod in_place;

@@ -11,7 +11,7 @@ use Rattle.std.proofs.lemmas.List.Sums.{get_or-le-sum_by}
 use Rattle.systems.specs.declared.system.Target.{Target}
 use Rattle.systems.specs.Meaning.{Meaning, Move, Ruled, Good, Aimed, point}
 use Rattle.systems.specs.Piles.{over, pair, moves_over, pile_moves, pile}
-use Rattle.systems.specs.Fitted.{fitted, agrees, inside, Outside, Split, both, Room}
+use Rattle.systems.specs.Fitted.{fitted, agrees, Outside, Split, both, Room}
 use Rattle.systems.specs.Cross.{length-cross}
 use Rattle.systems.specs.Piled.{inside-moves, outside-moves, shared-moves, shared-count, apart_count, shared-move, upper-move, lower-move, cross_nil, nth_pair, good_move}
 use Rattle.systems.specs.PiledSound.{Same, same_numbers, upper-below, lower-below}

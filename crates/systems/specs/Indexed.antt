@@ -88,8 +88,8 @@ module _ (n b : ℕ) (ts : List Target) where
     none-listed : (k a : ℕ) → nat_lt k n && nat_lt a 32 ≡ false → listed n cells k a ≡ []
     none-listed k a e = cond-false (nat_lt k n && nat_lt a 32) (slice_index_or cells (cell_of k a) []) [] e
 
-    pub sound-index : Between 1 64 n → Between 2 64 b → Sound (index_meaning n b cells ts)
-    sound-index hn hb = record {
+    pub sound_index : Between 1 64 n → Between 2 64 b → Sound (index_meaning n b cells ts)
+    sound_index hn hb = record {
       ruled = record {
         states_low = hn.0;
         mass_low = omega arith;

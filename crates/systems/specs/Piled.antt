@@ -9,7 +9,7 @@ use Rattle.std.proofs.lemmas.Nat.{le-div, div_below, mod_below}
 use Rattle.std.proofs.ByRecursion.{All-get_or}
 use Rattle.systems.specs.declared.system.Target.{Target}
 use Rattle.systems.specs.Meaning.{Meaning, Move, Ruled, Good, point}
-use Rattle.systems.specs.Piles.{cross, over, pair, moves_over, pile_moves, pile}
+use Rattle.systems.specs.Piles.{cross, over, pair, moves_over, pile_moves}
 use Rattle.systems.specs.Fitted.{both}
 use Rattle.systems.specs.Cross.{length-cross, getD-cross}
 

@@ -4,7 +4,7 @@ ghost use Rattle.systems.specs.Index.{index_meaning, good_index, Listed, Grouped
 ghost use Rattle.systems.specs.Meaning.{Between};
 ghost use Rattle.systems.specs.Mounts.{mount_fault, blamed};
 ghost use Rattle.systems.specs.Tables.{table_meaning};
-ghost use Rattle.std.proofs.Common.{rules, arith};
+ghost use Rattle.systems.specs.Indexed.{sound_index};
 
 use crate::fault::MountFault;
 use crate::records::MoveRecord;
@@ -102,7 +102,7 @@ impl Component {
 impl System for Component {
     ghost meaning = { λ c. index_meaning c.states c.breadth (map vec_items c.cells.items) c.targets.items };
 
-    ghost sound = { first_of (Prim.search rules, Prim.grind (arith, Self.row.coded.inj)) };
+    ghost sound = { λ x. sound_index x.states x.breadth x.targets.items (map vec_items x.cells.items) x.good x.counted x.broad };
 
     fn states(&self) -> u32 {
         self.states

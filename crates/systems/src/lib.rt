@@ -1,4 +1,6 @@
 // Systems: what answers the six questions, what the answers mean, and the kinds of systems.
+#![tactic(auto)]
+
 pub mod actions;
 pub mod any;
 pub mod component;

@@ -1,4 +1,6 @@
 // Tries the libraries at their limits, and prints what they answer.
+#![tactic(auto)]
+
 mod claims_tried;
 mod components_tried;
 mod texts_tried;

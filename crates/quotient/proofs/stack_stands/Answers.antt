@@ -3,4 +3,4 @@ use Rattle.quotient.proofs.Order.{order_law}
 use Rattle.quotient.proofs.Rules.{shape-law}
 
 pub returns : goal.returns
-returns c = record { order = order_law c.course-stands.ensures; shape = shape-law }
+returns c = record { order = order_law c.course_stands.ensures; shape = shape-law }

@@ -12,8 +12,8 @@ loop-state-init g c =
     let M = g.S.System.meaning c.args.system.now in
     (pasted_none (c.args.i * M.states) c.args.truth.now, refl)
 
-pub byte-in-value-requires : goal.byte-in-value-requires
-byte-in-value-requires g c =
+pub byte_in-value-requires : goal.byte_in-value-requires
+byte_in-value-requires g c =
     let M = g.S.System.meaning c.args.system.now in
     let b = c.requires.board in
     record {
@@ -39,10 +39,10 @@ loop-state-preserved g c =
     let s = c.loop-state.state in
     let inside : s < M.states = omega (arith, c.states-n.ensures) in
     let agrees = pasted-agrees M T i _ c.args.truth.now c.loop-state.truth b.rows b.agrees c.loop-state.invariant.0 in
-    let value = c.byte-in-value.ensures.value ∙ ap byte (state-is M t c.loop-state.truth i agrees b.sits c.requires.node s inside) in (
-      ap (λ n. set c.loop-state.truth (i * n + s) c.byte-in-value.result) c.states-n.ensures
+    let value = c.byte_in-value.ensures.value ∙ ap byte (state-is M t c.loop-state.truth i agrees b.sits c.requires.node s inside) in (
+      ap (λ n. set c.loop-state.truth (i * n + s) c.byte_in-value.result) c.states-n.ensures
           ∙ node_more (λ x. byte (at_node T i x)) (i * M.states) s _ c.args.truth.now c.loop-state.truth (omega (arith, c.requires.room)) c.loop-state.invariant.0 value,
-      c.byte-in-value.ensures.row ∙ c.loop-state.invariant.1,
+      c.byte_in-value.ensures.row ∙ c.loop-state.invariant.1,
     )
 
 pub returns : goal.returns

@@ -9,8 +9,8 @@ use Rattle.claims.proofs.judge.fill_table.Goals as goal
 pub loop-i-init : goal.loop-i-init
 loop-i-init g c = (refl, refl)
 
-pub fill-node-requires : goal.fill-node-requires
-fill-node-requires g c =
+pub fill_node-requires : goal.fill_node-requires
+fill_node-requires g c =
     let M = g.S.System.meaning c.args.system.now in
     let T = truths_in M c.args.tables in
     let i = c.loop-i.i in
@@ -32,8 +32,8 @@ fill-node-requires g c =
 pub loop-i-preserved : goal.loop-i-preserved
 loop-i-preserved g c =
     let M = g.S.System.meaning c.args.system.now in (
-      table_more (truths_in M c.args.tables) M.states c.loop-i.i _ c.args.truth.now c.loop-i.truth _ refl c.loop-i.invariant.0 c.fill-node.ensures.truth,
-      c.fill-node.ensures.row ∙ c.loop-i.invariant.1,
+      table_more (truths_in M c.args.tables) M.states c.loop-i.i _ c.args.truth.now c.loop-i.truth _ refl c.loop-i.invariant.0 c.fill_node.ensures.truth,
+      c.fill_node.ensures.row ∙ c.loop-i.invariant.1,
     )
 
 pub returns : goal.returns

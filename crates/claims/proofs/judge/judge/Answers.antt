@@ -17,5 +17,5 @@ returns g c =
       row = c.answer.ensures.row;
       book = λ k right.
           let Kept : Result Verdict Refusal → Type 0 = λ r. Said k claim M r × Stands (fed k (entry (judging M) (is_err r))) (stage claim tables) in
-          subst Kept (sym c.answer.ensures.value) (c.books-stand.ensures.judge M claim tables _ _ (g.met.S.System.sound c.args.system.now) k right);
+          subst Kept (sym c.answer.ensures.value) (c.books_stand.ensures.judge M claim tables _ _ (g.met.S.System.sound c.args.system.now) k right);
     }

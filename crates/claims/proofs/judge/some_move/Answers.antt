@@ -6,8 +6,8 @@ use Rattle.claims.specs.Boards.{truths_in, Board}
 use Rattle.claims.proofs.Anys.{some_of, any-hit, any-miss, any_none}
 use Rattle.claims.proofs.judge.some_move.Goals as goal
 
-pub some-holds-requires : goal.some-holds-requires
-some-holds-requires g c =
+pub some_holds-requires : goal.some_holds-requires
+some_holds-requires g c =
     let M = g.S.System.meaning c.args.system.now in
     let Long : List ℕ → Type 0 = λ r. Board M c.args.tables c.args.upto c.args.truth.now (length r) in
     record {
@@ -17,15 +17,15 @@ some-holds-requires g c =
       run = c.requires.run;
     }
 
-pub returns-then-some-holds : goal.returns-then-some-holds
-returns-then-some-holds g c =
+pub returns-then-some_holds : goal.returns-then-some_holds
+returns-then-some_holds g c =
     let M = g.S.System.meaning c.args.system.now in
     let p = some_of (of_node (truths_in M c.args.tables)) (entries c.args.tables.alternatives.now c.args.run) in
     let mvs = M.moves c.args.state c.args.action in
     let h : c.loop-place.place < length mvs = omega (arith, c.moves-count.ensures) in
     record {
-      value = any-hit p mvs c.loop-place.place [] c.loop-place.invariant.0 h (sym c.if-some-holds.ensures.value);
-      row = c.some-holds.ensures.row ∙ c.loop-place.invariant.1;
+      value = any-hit p mvs c.loop-place.place [] c.loop-place.invariant.0 h (sym c.if-some_holds.ensures.value);
+      row = c.some_holds.ensures.row ∙ c.loop-place.invariant.1;
     }
 
 pub loop-place-preserved : goal.loop-place-preserved
@@ -34,8 +34,8 @@ loop-place-preserved g c =
     let p = some_of (of_node (truths_in M c.args.tables)) (entries c.args.tables.alternatives.now c.args.run) in
     let mvs = M.moves c.args.state c.args.action in
     let h : c.loop-place.place < length mvs = omega (arith, c.moves-count.ensures) in (
-      any-miss p mvs c.loop-place.place [] c.loop-place.invariant.0 h (sym c.if-some-holds.ensures.value),
-      c.some-holds.ensures.row ∙ c.loop-place.invariant.1,
+      any-miss p mvs c.loop-place.place [] c.loop-place.invariant.0 h (sym c.if-some_holds.ensures.value),
+      c.some_holds.ensures.row ∙ c.loop-place.invariant.1,
     )
 
 pub returns : goal.returns

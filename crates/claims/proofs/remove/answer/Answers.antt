@@ -4,8 +4,8 @@ use Rattle.formulas.specs.Tables.{slots, contents}
 use Rattle.claims.proofs.Removing.{light, few, as-claimed, removes}
 use Rattle.claims.proofs.remove.answer.Goals as goal
 
-pub overflow-mul-removed : goal.overflow-mul-removed
-overflow-mul-removed g c =
+pub overflow_mul-removed : goal.overflow_mul-removed
+overflow_mul-removed g c =
     let R = g.S.System.meaning c.args.system.now in
     let s = contents c.args.tables in
     let second = slots c.args.nodes.now c.args.terms.now c.args.alternatives.now in

@@ -8,5 +8,5 @@ returns g c =
     let after = slots c.answer.new.nodes c.answer.new.terms c.answer.new.alternatives in
     record {
       outcome = c.answer.ensures;
-      book = c.books-stand.ensures.remove R c.args.claim (contents c.args.tables) second after c.answer.result (g.met.S.System.sound c.args.system.now) c.answer.ensures;
+      book = c.books_stand.ensures.remove R c.args.claim (contents c.args.tables) second after c.answer.result (g.met.S.System.sound c.args.system.now) c.answer.ensures;
     }

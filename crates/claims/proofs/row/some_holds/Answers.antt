@@ -39,8 +39,8 @@ fill-requires g c =
       closed = r.closed;
     }
 
-pub some-lit-answer-requires : goal.some-lit-answer-requires
-some-lit-answer-requires g c =
+pub some_lit-answer-requires : goal.some_lit-answer-requires
+some_lit-answer-requires g c =
     let r = c.reach-span.ensures in
     let long : c.reach-span.result.high ≤ length c.fill.new.row = omega (arith, r.top, c.requires.board.long, c.reach-span.auto.row, c.fill.auto.row) in
     All-weaker (λ d. (d < c.reach-span.result.high) × Mark c.reach-span.new.row d) (λ d. d < length c.fill.new.row) (λ d a. omega (arith, a.0)) _ r.named
@@ -60,6 +60,6 @@ returns g c =
     let wanted = take (run.first + run.count - run.first) (drop run.first t.alternatives.now) in
     let span = c.reach-span.result in
     record {
-      value = reached-any t.nodes.now wanted c.args.row.now c.reach-span.new.row c.fill.new.row c.args.upto span.low span.high c.requires.clear c.reach-span.ensures T mv c.fill.ensures _ c.some-lit-answer.ensures ∙ ap (any (λ d. of_node T d mv)) (sliced t.alternatives.now run);
+      value = reached-any t.nodes.now wanted c.args.row.now c.reach-span.new.row c.fill.new.row c.args.upto span.low span.high c.requires.clear c.reach-span.ensures T mv c.fill.ensures _ c.some_lit-answer.ensures ∙ ap (any (λ d. of_node T d mv)) (sliced t.alternatives.now run);
       row = reached-clear t.nodes.now wanted c.args.row.now c.reach-span.new.row c.fill.new.row c.args.upto span.low span.high c.requires.clear c.reach-span.ensures T mv c.fill.ensures c.clear.new.row (omega (arith, c.reach-span.auto.row, c.fill.auto.row, c.clear.auto.row)) c.clear.ensures;
     }

@@ -16,14 +16,14 @@ loop-low-init c = (
   omega arith,
 )
 
-pub mark-parts-low-requires : goal.mark-parts-low-requires
-mark-parts-low-requires c =
+pub mark_parts-low-requires : goal.mark_parts-low-requires
+mark_parts-low-requires c =
     let i = c.loop-low.j - 1 in
     All-weaker (λ p. p < i) (λ p. p < length c.loop-low.row) (λ p l. omega (arith, c.requires.long, c.loop-low.auto.row, c.loop-low.invariant.1)) (parts (get_or c.args.nodes.now i no_node)) (c.requires.parted i (omega (arith, c.requires.inside, c.loop-low.invariant.1)))
 
 pub loop-low-preserved-then-row-j-eq-MARK : goal.loop-low-preserved-then-row-j-eq-MARK
 loop-low-preserved-then-row-j-eq-MARK c = (
-  spread-on c.args.nodes.now c.requires.parted c.args.span.low c.loop-low.low c.args.span.high (c.loop-low.j - 1) c.loop-low.j c.args.row.now c.loop-low.row c.loop-low.invariant.0 (omega arith) (omega (arith, c.loop-low.invariant.1)) c.requires.inside _ _ (omega (arith, c.requires.long, c.loop-low.auto.row)) c.mark-parts-low.ensures.low c.mark-parts-low.ensures.row,
+  spread-on c.args.nodes.now c.requires.parted c.args.span.low c.loop-low.low c.args.span.high (c.loop-low.j - 1) c.loop-low.j c.args.row.now c.loop-low.row c.loop-low.invariant.0 (omega arith) (omega (arith, c.loop-low.invariant.1)) c.requires.inside _ _ (omega (arith, c.requires.long, c.loop-low.auto.row)) c.mark_parts-low.ensures.low c.mark_parts-low.ensures.row,
   omega (arith, c.loop-low.invariant.1),
 )
 

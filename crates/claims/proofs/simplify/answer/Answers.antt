@@ -5,22 +5,22 @@ use Rattle.simplification.specs.Tables.{desk}
 use Rattle.claims.proofs.Simplifying.{few-left, accepts, refuses}
 use Rattle.claims.proofs.simplify.answer.Goals as goal
 
-pub take-up-requires : goal.take-up-requires
-take-up-requires c = few-left _ _ _ c.in-Ok.ensures.fewer c.fills.ensures c.args.claim.now.few
+pub take_up-requires : goal.take_up-requires
+take_up-requires c = few-left _ _ _ c.in-Ok.ensures.fewer c.fills.ensures c.args.claim.now.few
 
 pub returns-in-Ok : goal.returns-in-Ok
 returns-in-Ok c =
     let before = desk (slots c.args.nodes.now c.args.terms.now c.args.alternatives.now) c.args.map.now in
-    let after = slots c.simplify-in-place.new.nodes c.simplify-in-place.new.terms c.simplify-in-place.new.alternatives in
+    let after = slots c.simplify_in_place.new.nodes c.simplify_in_place.new.terms c.simplify_in_place.new.alternatives in
     record {
-      outcome = accepts c.args.claim.now before (desk after c.simplify-in-place.new.map) _ _ _ c.fills.ensures c.root.ensures c.mass-mass.ensures c.in-Ok.new _ c.in-Ok.ensures.outcome c.take-up.ensures.fills c.take-up.ensures.root c.take-up.ensures.mass c.take-up.ensures.shared;
-      settled = subst Settles (sym (ap₂ (λ f r. formula_at f r after) c.take-up.ensures.fills c.take-up.ensures.root)) c.in-Ok.ensures.settled;
+      outcome = accepts c.args.claim.now before (desk after c.simplify_in_place.new.map) _ _ _ c.fills.ensures c.root.ensures c.mass-mass.ensures c.in-Ok.new _ c.in-Ok.ensures.outcome c.take_up.ensures.fills c.take_up.ensures.root c.take_up.ensures.mass c.take_up.ensures.shared;
+      settled = subst Settles (sym (ap₂ (λ f r. formula_at f r after) c.take_up.ensures.fills c.take_up.ensures.root)) c.in-Ok.ensures.settled;
     }
 
 pub returns-in-Err : goal.returns-in-Err
 returns-in-Err c =
     let before = desk (slots c.args.nodes.now c.args.terms.now c.args.alternatives.now) c.args.map.now in
-    let after = desk (slots c.simplify-in-place.new.nodes c.simplify-in-place.new.terms c.simplify-in-place.new.alternatives) c.simplify-in-place.new.map in
+    let after = desk (slots c.simplify_in_place.new.nodes c.simplify_in_place.new.terms c.simplify_in_place.new.alternatives) c.simplify_in_place.new.map in
     record {
       outcome = refuses c.args.claim.now before after _ _ _ c.fills.ensures c.root.ensures c.mass-mass.ensures c.in-Err.why _ c.in-Err.ensures.outcome refl;
       settled = tt;

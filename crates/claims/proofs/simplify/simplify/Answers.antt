@@ -8,5 +8,5 @@ returns c =
     record {
       outcome = c.answer.ensures.outcome;
       settled = c.answer.ensures.settled;
-      book = c.books-stand.ensures.simplify c.args.claim.now c.answer.new.claim before after c.args.map.now c.answer.new.map c.answer.result c.answer.ensures.outcome;
+      book = c.books_stand.ensures.simplify c.args.claim.now c.answer.new.claim before after c.args.map.now c.answer.new.map c.answer.result c.answer.ensures.outcome;
     }

@@ -6,8 +6,8 @@ use Rattle.claims.proofs.Soundness.{some-mass, few_states, light}
 use Rattle.claims.proofs.Totals.{target_is, target-there, share_fits}
 use Rattle.claims.proofs.sum.share.Goals as goal
 
-pub coefficients-at-requires : goal.coefficients-at-requires
-coefficients-at-requires g c =
+pub coefficients_at-requires : goal.coefficients_at-requires
+coefficients_at-requires g c =
     let M = g.S.System.meaning c.args.system.now in
     let sound = g.met.S.System.sound c.args.system.now in
     let mv = spot_of M c.args.spot in
@@ -26,10 +26,10 @@ returns-in-Some g c =
     let M = g.S.System.meaning c.args.system.now in
     let t = target_is (spot_of M c.args.spot) c.args.index c.requires.inside c.in-Some.t c.in-Some.ensures in
     ap₂ (λ w n. w * n) (ap (λ u. u.weight) t)
-    (c.coefficients-at.ensures ∙ ap₂ (λ n s. coefficients_of (λ i. lit c.args.truth.now n i s) c.args.terms.now) c.states.ensures (ap (λ u. u.state) t))
+    (c.coefficients_at.ensures ∙ ap₂ (λ n s. coefficients_of (λ i. lit c.args.truth.now n i s) c.args.terms.now) c.states.ensures (ap (λ u. u.state) t))
 
-pub overflow-mul-result : goal.overflow-mul-result
-overflow-mul-result g c =
+pub overflow_mul-result : goal.overflow_mul-result
+overflow_mul-result g c =
     let M = g.S.System.meaning c.args.system.now in
     let mv = spot_of M c.args.spot in
     let P : ℕ → Bool = λ i. lit c.args.truth.now M.states i (get_or mv c.args.index no_target).state in

@@ -8,8 +8,8 @@ use Rattle.claims.proofs.sum.sum_terms.Goals as goal
 pub loop-index-init : goal.loop-index-init
 loop-index-init g c = sym (total_none (lit c.args.truth.now (g.S.System.meaning c.args.system.now).states) c.args.terms.now)
 
-pub overflow-add-sum : goal.overflow-add-sum
-overflow-add-sum g c =
+pub overflow_add-sum : goal.overflow_add-sum
+overflow_add-sum g c =
     let M = g.S.System.meaning c.args.system.now in
     let mv = spot_of M c.args.spot in
     let at = lit c.args.truth.now M.states in

@@ -5,23 +5,23 @@ use Rattle.formulas.proofs.Summing.{Partly}
 use Rattle.formulas.proofs.Taking.{measure}
 use Rattle.formulas.proofs.grammar.+at_least_diamond_dist_inside_dist_negation_dist_pair_dist_term_element_here_product_quantity_several_single_state_inside_state_negation_state_pair_state_term_sum_sum_inside.Given as goal
 
-abbrev pub decreases-at-least : goal.decreases-at-least
-decreases-at-least l = measure l.words.now 1
+abbrev pub decreases-at_least : goal.decreases-at_least
+decreases-at_least l = measure l.words.now 1
 
 abbrev pub decreases-diamond : goal.decreases-diamond
 decreases-diamond l = measure l.words.now 1
 
-abbrev pub decreases-dist-inside : goal.decreases-dist-inside
-decreases-dist-inside l = measure l.words.now 2
+abbrev pub decreases-dist_inside : goal.decreases-dist_inside
+decreases-dist_inside l = measure l.words.now 2
 
-abbrev pub decreases-dist-negation : goal.decreases-dist-negation
-decreases-dist-negation l = measure l.words.now 1
+abbrev pub decreases-dist_negation : goal.decreases-dist_negation
+decreases-dist_negation l = measure l.words.now 1
 
-abbrev pub decreases-dist-pair : goal.decreases-dist-pair
-decreases-dist-pair l = measure l.words.now 1
+abbrev pub decreases-dist_pair : goal.decreases-dist_pair
+decreases-dist_pair l = measure l.words.now 1
 
-abbrev pub decreases-dist-term : goal.decreases-dist-term
-decreases-dist-term l = measure l.words.now 0
+abbrev pub decreases-dist_term : goal.decreases-dist_term
+decreases-dist_term l = measure l.words.now 0
 
 abbrev pub decreases-element : goal.decreases-element
 decreases-element l = measure l.words.now 0
@@ -41,23 +41,23 @@ decreases-several l = measure l.words.now 1
 abbrev pub decreases-single : goal.decreases-single
 decreases-single l = measure l.words.now 1
 
-abbrev pub decreases-state-inside : goal.decreases-state-inside
-decreases-state-inside l = measure l.words.now 2
+abbrev pub decreases-state_inside : goal.decreases-state_inside
+decreases-state_inside l = measure l.words.now 2
 
-abbrev pub decreases-state-negation : goal.decreases-state-negation
-decreases-state-negation l = measure l.words.now 1
+abbrev pub decreases-state_negation : goal.decreases-state_negation
+decreases-state_negation l = measure l.words.now 1
 
-abbrev pub decreases-state-pair : goal.decreases-state-pair
-decreases-state-pair l = measure l.words.now 1
+abbrev pub decreases-state_pair : goal.decreases-state_pair
+decreases-state_pair l = measure l.words.now 1
 
-abbrev pub decreases-state-term : goal.decreases-state-term
-decreases-state-term l = measure l.words.now 0
+abbrev pub decreases-state_term : goal.decreases-state_term
+decreases-state_term l = measure l.words.now 0
 
 abbrev pub decreases-sum : goal.decreases-sum
 decreases-sum l = measure l.words.now 0
 
-abbrev pub decreases-sum-inside : goal.decreases-sum-inside
-decreases-sum-inside l = measure l.words.now 2
+abbrev pub decreases-sum_inside : goal.decreases-sum_inside
+decreases-sum_inside l = measure l.words.now 2
 
 abbrev pub invariant-several-loop-x : goal.invariant-several-loop-x
 invariant-several-loop-x l =

@@ -5,10 +5,10 @@ use Rattle.formulas.proofs.lexer.expect.Goals as goal
 
 pub returns-then-code : goal.returns-then-code
 returns-then-code c =
-    and_so _ c.in-ok-x.ensures
-    (as_if (λ stop ws. expected-yes c.in-ok-x.x ws c.args.token (cc)) (nothing_read refl))
+    and_so _ c.in_ok-x.ensures
+    (as_if (λ stop ws. expected-yes c.in_ok-x.x ws c.args.token (cc)) (nothing_read refl))
 
 pub returns-else-code : goal.returns-else-code
 returns-else-code c =
-    and_so _ c.in-ok-x.ensures
-    (as_if (λ stop ws. expected-no c.in-ok-x.x ws c.args.token (λ e. c.if-code.false (cc))) refused)
+    and_so _ c.in_ok-x.ensures
+    (as_if (λ stop ws. expected-no c.in_ok-x.x ws c.args.token (λ e. c.if-code.false (cc))) refused)

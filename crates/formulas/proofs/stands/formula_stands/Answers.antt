@@ -12,13 +12,13 @@ use Rattle.formulas.proofs.stands.formula_stands.Goals as goal
 told : (ns : List Node) (ts : List Term) (alts : List ℕ) (root m : ℕ) (r : Bool) → r ≡ stands ns ts alts root m → record { value : r ≡ stands ns ts alts root m; right : r ≡ true → AllRight ns ts alts m }
 told ns ts alts root m r e = record { value = e; right = λ t. stands-right ns ts alts m root (sym e ∙ t) }
 
-pub returns-then-not-node-stands : goal.returns-then-not-node-stands
-returns-then-not-node-stands c =
-    told _ _ _ _ _ _ (first_off _ _ (stop _ _ _ _ _ _ _ c.loop-i.invariant _ c.loop-i-test.true c.if-not-node-stands.ensures))
+pub returns-then-not-node_stands : goal.returns-then-not-node_stands
+returns-then-not-node_stands c =
+    told _ _ _ _ _ _ (first_off _ _ (stop _ _ _ _ _ _ _ c.loop-i.invariant _ c.loop-i-test.true c.if-not-node_stands.ensures))
 
 pub loop-i-preserved : goal.loop-i-preserved
 loop-i-preserved c =
-    turn _ _ _ _ _ _ _ c.loop-i.invariant _ c.loop-i-test.true c.if-not-node-stands.ensures _ _ c.term-count-term.ensures c.alternative-count-alternative.ensures
+    turn _ _ _ _ _ _ _ c.loop-i.invariant _ c.loop-i-test.true c.if-not-node_stands.ensures _ _ c.term_count-term.ensures c.alternative_count-alternative.ensures
 
 pub returns-then-term-terms : goal.returns-then-term-terms
 returns-then-term-terms c = told _ _ _ _ _ _ (first_off _ _ (end _ _ _ _ _ _ _ c.loop-i.invariant c.loop-i-test.false ∙ and_left _ _ (ne_eqb _ _ c.if-term-terms.true)))
@@ -27,4 +27,4 @@ pub returns-then-alternative-alternatives : goal.returns-then-alternative-altern
 returns-then-alternative-alternatives c = told _ _ _ _ _ _ (first_off _ _ (end _ _ _ _ _ _ _ c.loop-i.invariant c.loop-i-test.false ∙ and_right _ _ (ne_eqb _ _ c.if-alternative-alternatives.true)))
 
 pub returns : goal.returns
-returns c = told _ _ _ _ _ _ (both_on _ _ _ (end _ _ _ _ _ _ _ c.loop-i.invariant c.loop-i-test.false ∙ and_from _ _ (eq-eqb _ _ c.if-term-terms.false) (eq-eqb _ _ c.if-alternative-alternatives.false)) c.is-state.ensures)
+returns c = told _ _ _ _ _ _ (both_on _ _ _ (end _ _ _ _ _ _ _ c.loop-i.invariant c.loop-i-test.false ∙ and_from _ _ (eq-eqb _ _ c.if-term-terms.false) (eq-eqb _ _ c.if-alternative-alternatives.false)) c.is_state.ensures)

@@ -4,4 +4,4 @@ use Rattle.qcheck.proofs.case.remove_from.Goals as goal
 
 pub returns-in-Short : goal.returns-in-Short
 returns-in-Short g c =
-    again (g.S.System.meaning c.args.system.now) c.args.case c.in-ok-first.first c.remove-into-in-Short.result c.in-ok-first.ensures (ap is_some c.in-Some.is) c.remove-into-in-Short.ensures
+    again (g.S.System.meaning c.args.system.now) c.args.case c.in_ok-first.first c.remove_into-in-Short.result c.in_ok-first.ensures (ap is_some c.in-Some.is) c.remove_into-in-Short.ensures

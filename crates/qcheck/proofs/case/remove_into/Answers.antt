@@ -10,20 +10,20 @@ use Rattle.qcheck.proofs.case.remove_into.Goals as goal
 pub returns-in-Ok : goal.returns-in-Ok
 returns-in-Ok g c =
     let R = g.S.System.meaning c.args.system.now in
-    let second = c.in-ok-second.second in
+    let second = c.in_ok-second.second in
     let left = c.remove.new in
-    let given = slots c.as-mut-slice.result.now c.as-mut-slice-2.result.now c.as-mut-slice-3.result.now in
+    let given = slots c.as_mut_slice.result.now c.as_mut_slice-2.result.now c.as_mut_slice-3.result.now in
     let after = slots left.nodes left.terms left.alternatives in
     let To : Stage → Type 0 = λ h. Step (stage_of c.args.case) (entry (removing R) false) h in
     subst To
     (back c.in-Ok.left.0 second.nodes second.terms second.alternatives left.nodes left.terms left.alternatives
-    (omega (arith, c.remove.auto.nodes, c.as-mut-slice.ensures.len)) (omega (arith, c.remove.auto.terms, c.as-mut-slice-2.ensures.len)) (omega (arith, c.remove.auto.alternatives, c.as-mut-slice-3.ensures.len)))
+    (omega (arith, c.remove.auto.nodes, c.as_mut_slice.ensures.len)) (omega (arith, c.remove.auto.terms, c.as_mut_slice-2.ensures.len)) (omega (arith, c.remove.auto.alternatives, c.as_mut_slice-3.ensures.len)))
     (remove R given after (Ok c.in-Ok.left) (g.met.S.System.sound c.args.system.now) (subst (λ s. Removes R c.args.case.claim s given (Ok c.in-Ok.left) after) c.tables.ensures c.in-Ok.ensures.outcome))
 
 pub returns-in-Err : goal.returns-in-Err
 returns-in-Err g c =
     let R = g.S.System.meaning c.args.system.now in
     let left = c.remove.new in
-    let given = slots c.as-mut-slice.result.now c.as-mut-slice-2.result.now c.as-mut-slice-3.result.now in
+    let given = slots c.as_mut_slice.result.now c.as_mut_slice-2.result.now c.as_mut_slice-3.result.now in
     let after = slots left.nodes left.terms left.alternatives in
     remove R given after (Err c.in-Err.back) (g.met.S.System.sound c.args.system.now) (subst (λ s. Removes R c.args.case.claim s given (Err c.in-Err.back) after) c.tables.ensures c.in-Err.ensures.outcome)

@@ -8,8 +8,8 @@ use Rattle.qcheck.proofs.stack.judge_over.Goals as goal
 
 pub returns-in-Ok : goal.returns-in-Ok
 returns-in-Ok c =
-    told-piled (vec_items c.args.stack.now) _ c.in-Some.upper c.shared.result (any_meaning (rc_value c.args.lowest)) c.args.bench.now.claim.now (contents c.args.bench.now.tables) c.in-Some.ensures.items c.shared.ensures _ c.judge-two.result c.in-Ok.ensures.0 c.in-Ok.ensures.1 c.judge-two.ensures
+    told-piled (vec_items c.args.stack.now) _ c.in-Some.upper c.shared.result (any_meaning (rc_value c.args.lowest)) c.args.bench.now.claim.now (contents c.args.bench.now.tables) c.in-Some.ensures.items c.shared.ensures _ c.judge_two.result c.in-Ok.ensures.0 c.in-Ok.ensures.1 c.judge_two.ensures
 
 pub returns : goal.returns
 returns c =
-    answer-refused (vec_items c.args.stack.now) _ c.in-Some.upper c.shared.result (any_meaning (rc_value c.args.lowest)) c.args.bench.now.claim.now (contents c.args.bench.now.tables) c.in-Some.ensures.items c.shared.ensures c.in-Err.fault _ c.in-Err.ensures.0 (ap Refused c.by-number.ensures ∙ ap refused c.number.ensures)
+    answer-refused (vec_items c.args.stack.now) _ c.in-Some.upper c.shared.result (any_meaning (rc_value c.args.lowest)) c.args.bench.now.claim.now (contents c.args.bench.now.tables) c.in-Some.ensures.items c.shared.ensures c.in-Err.fault _ c.in-Err.ensures.0 (ap Refused c.by_number.ensures ∙ ap refused c.number.ensures)

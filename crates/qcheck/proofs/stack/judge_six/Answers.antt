@@ -5,4 +5,4 @@ use Rattle.qcheck.proofs.stack.judge_six.Goals as goal
 
 pub returns : goal.returns
 returns g c =
-    told-alone (vec_items c.args.stack.now) (g.S.System.meaning c.args.system) c.args.bench.now.claim.now (contents c.args.bench.now.tables) c.judge-one.result c.requires c.judge-one.ensures
+    told-alone (vec_items c.args.stack.now) (g.S.System.meaning c.args.system) c.args.bench.now.claim.now (contents c.args.bench.now.tables) c.judge_one.result c.requires c.judge_one.ensures

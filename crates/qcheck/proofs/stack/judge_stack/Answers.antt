@@ -4,10 +4,10 @@ use Rattle.formulas.specs.Tables.{contents}
 use Rattle.qcheck.proofs.Towers.{told-within, told_beyond}
 use Rattle.qcheck.proofs.stack.judge_stack.Goals as goal
 
-pub returns-then-len-gt-MOST-PILED : goal.returns-then-len-gt-MOST-PILED
-returns-then-len-gt-MOST-PILED c =
-    told_beyond (vec_items c.args.stack.now) (any_meaning (rc_value c.args.lowest)) c.args.bench.now.claim.now (contents c.args.bench.now.tables) (omega (arith, c.len.ensures, c.if-len-gt-MOST-PILED.true))
+pub returns-then-len-gt-MOST_PILED : goal.returns-then-len-gt-MOST_PILED
+returns-then-len-gt-MOST_PILED c =
+    told_beyond (vec_items c.args.stack.now) (any_meaning (rc_value c.args.lowest)) c.args.bench.now.claim.now (contents c.args.bench.now.tables) (omega (arith, c.len.ensures, c.if-len-gt-MOST_PILED.true))
 
 pub returns : goal.returns
 returns c =
-    told-within (vec_items c.args.stack.now) (any_meaning (rc_value c.args.lowest)) c.args.bench.now.claim.now (contents c.args.bench.now.tables) c.judge-over.result (omega (arith, c.len.ensures, c.if-len-gt-MOST-PILED.false)) c.judge-over.ensures
+    told-within (vec_items c.args.stack.now) (any_meaning (rc_value c.args.lowest)) c.args.bench.now.claim.now (contents c.args.bench.now.tables) c.judge_over.result (omega (arith, c.len.ensures, c.if-len-gt-MOST_PILED.false)) c.judge_over.ensures

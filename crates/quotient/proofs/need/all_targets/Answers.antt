@@ -14,7 +14,7 @@ loop-p-init g c =
 pub loop-p-preserved : goal.loop-p-preserved
 loop-p-preserved g c =
     let R = g.S.System.meaning c.args.system.now in
-    topped-next (targets_from R) R.states c.loop-p.p _ _ _ c.loop-p.invariant c.targets-from.ensures c.saturating-add-sum.ensures
+    topped-next (targets_from R) R.states c.loop-p.p _ _ _ c.loop-p.invariant c.targets_from.ensures c.saturating_add-sum.ensures
 
 pub returns : goal.returns
 returns g c =

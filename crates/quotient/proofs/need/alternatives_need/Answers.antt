@@ -11,7 +11,7 @@ loop-node-init g c = refl
 pub loop-node-preserved : goal.loop-node-preserved
 loop-node-preserved g c =
     let R = g.S.System.meaning c.args.system.now in
-    topped_more (alternative_need (has c.args.shared) R) c.args.nodes.now c.loop-node.node-index no_node _ _ _ c.loop-node-test.true c.loop-node.invariant c.alternative-need.ensures c.saturating-add-sum.ensures
+    topped_more (alternative_need (has c.args.shared) R) c.args.nodes.now c.loop-node.node-index no_node _ _ _ c.loop-node-test.true c.loop-node.invariant c.alternative_need.ensures c.saturating_add-sum.ensures
 
 pub returns : goal.returns
 returns g c =

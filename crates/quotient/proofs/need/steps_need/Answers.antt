@@ -11,7 +11,7 @@ pub loop-p-preserved : goal.loop-p-preserved
 loop-p-preserved g c =
     let R = g.S.System.meaning c.args.system.now in
     let f : ℕ → ℕ = λ p. step_need c.args.shared c.args.m c.args.h (length (R.moves p c.args.action)) in
-    topped-next f 0 c.loop-p.p _ _ _ c.loop-p.invariant (c.step-need.ensures ∙ ap (λ k. topped (step_need c.args.shared c.args.m c.args.h k)) c.moves.ensures) c.saturating-add-sum.ensures
+    topped-next f 0 c.loop-p.p _ _ _ c.loop-p.invariant (c.step_need.ensures ∙ ap (λ k. topped (step_need c.args.shared c.args.m c.args.h k)) c.moves.ensures) c.saturating_add-sum.ensures
 
 pub returns : goal.returns
 returns g c =

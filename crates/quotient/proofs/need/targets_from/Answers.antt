@@ -9,7 +9,7 @@ loop-action-init g c = refl
 
 pub loop-action-preserved : goal.loop-action-preserved
 loop-action-preserved g c =
-    topped-next (targets_on (g.S.System.meaning c.args.system.now) c.args.state) 0 c.loop-action.action _ _ _ c.loop-action.invariant c.targets-on.ensures c.saturating-add-sum.ensures
+    topped-next (targets_on (g.S.System.meaning c.args.system.now) c.args.state) 0 c.loop-action.action _ _ _ c.loop-action.invariant c.targets_on.ensures c.saturating_add-sum.ensures
 
 pub returns : goal.returns
 returns g c =

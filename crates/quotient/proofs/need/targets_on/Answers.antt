@@ -12,7 +12,7 @@ loop-k-preserved g c =
     let mvs = (g.S.System.meaning c.args.system.now).moves c.args.state c.args.action in
     let k = c.loop-k.k in
     let h : k < length mvs = omega (arith, c.moves-count.ensures, c.loop-k-test.true) in
-    topped_plus (sum_by length (take k mvs)) c.loop-k.sum c.targets.result _ c.loop-k.invariant c.saturating-add-sum.ensures
+    topped_plus (sum_by length (take k mvs)) c.loop-k.sum c.targets.result _ c.loop-k.invariant c.saturating_add-sum.ensures
     ∙ ap topped (omega (arith, sum_by_more length mvs k [] h, c.targets.ensures))
 
 pub returns : goal.returns

@@ -9,4 +9,4 @@ returns-then-terms-eq0 g c =
     sym (ap (λ k. topped (k * n)) c.if-terms-eq0.true ∙ ap topped (zero-mul n))
 
 pub returns : goal.returns
-returns g c = topped-mul c.args.terms (all_targets (g.S.System.meaning c.args.system.now)) _ _ c.all-targets.ensures c.saturating-mul.ensures
+returns g c = topped-mul c.args.terms (all_targets (g.S.System.meaning c.args.system.now)) _ _ c.all_targets.ensures c.saturating_mul.ensures

@@ -10,8 +10,8 @@ loop-i-init g c =
     let R = g.S.System.meaning c.args.system.now in
     (c.states-n.ensures ∙ first-none R, omega (arith, c.states-n.ensures, c.requires.few), λ k l. absurd (not-suc-le-zero l))
 
-pub overflow-add-next : goal.overflow-add-next
-overflow-add-next g c =
+pub overflow_add-next : goal.overflow_add-next
+overflow_add-next g c =
     omega (arith, c.loop-i.invariant.1, c.moves-next.ensures, (g.met.S.System.sound c.args.system.now).ruled.few (c.loop-i.i / 32) (c.loop-i.i % 32), c.requires.narrow, c.requires.few, c.states-n.ensures, c.loop-i-test.true)
 
 pub loop-i-preserved : goal.loop-i-preserved

@@ -14,8 +14,8 @@ sample-requires c = record {
   sampled = c.loop-i.invariant.1;
 }
 
-pub overflow-add-total : goal.overflow-add-total
-overflow-add-total c =
+pub overflow_add-total : goal.overflow_add-total
+overflow_add-total c =
     omega (arith, width-more c.args.states c.args.rows c.args.nodes.now c.loop-i.i _ _ no_node c.loop-i-test.true c.loop-i.invariant.0 c.width.ensures, width_small c.args.states c.args.rows c.args.nodes.now c.requires.states c.requires.rows (c.loop-i.i + 1) (omega (arith, c.loop-i-test.true, c.requires.few)))
 
 pub loop-i-preserved : goal.loop-i-preserved

@@ -7,8 +7,8 @@ use Rattle.quotient.proofs.plan.offset.Goals as goal
 pub loop-j-init : goal.loop-j-init
 loop-j-init c = c.requires.sampling.sampled (c.args.d / 32) (omega (arith, c.requires.inside))
 
-pub overflow-add-sum : goal.overflow-add-sum
-overflow-add-sum c =
+pub overflow_add-sum : goal.overflow_add-sum
+overflow_add-sum c =
     let x = c.args.plan in
     let h : c.loop-j.j < length (plan_nodes x) = omega (arith, c.requires.inside, c.loop-j-test.true) in
     omega (arith, width-more x.states x.rows (plan_nodes x) c.loop-j.j _ _ no_node h c.loop-j.invariant c.width.ensures, width-within x.states x.rows (plan_nodes x) (c.loop-j.j + 1), c.requires.sampling.few)

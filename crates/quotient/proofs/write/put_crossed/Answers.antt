@@ -13,8 +13,8 @@ use Rattle.quotient.proofs.write.put_crossed.Goals as goal
 pub loop-d-init : goal.loop-d-init
 loop-d-init c = (refl, ap (extended (table c.args.out.now)) (sym (cross-none (place_in c.args.plan) (range_with_len c.args.first c.args.count))))
 
-pub put-rows-requires : goal.put-rows-requires
-put-rows-requires c = record {
+pub put_rows-requires : goal.put_rows-requires
+put_rows-requires c = record {
   sampling = c.requires.sampling;
   inside = All-get_or (λ d. d < length (plan_nodes c.args.plan)) c.args.parts.now c.loop-d.d-index 0 c.loop-d-test.true c.requires.inside;
   small = c.requires.small;
@@ -27,8 +27,8 @@ loop-d-preserved c =
     let ds = c.args.parts.now in
     let i = c.loop-d.d-index in
     let rows = range_with_len c.args.first c.args.count in (
-      c.put-rows.ensures.same ∙ h.0,
-      extended-more (table c.args.out.now) (table c.loop-d.out) (table c.put-rows.new.out) (cross f (take i ds) rows) (map (f (get_or ds i 0)) rows) _ h.1 c.put-rows.ensures.wrote (cross-more f ds i 0 rows c.loop-d-test.true),
+      c.put_rows.ensures.same ∙ h.0,
+      extended-more (table c.args.out.now) (table c.loop-d.out) (table c.put_rows.new.out) (cross f (take i ds) rows) (map (f (get_or ds i 0)) rows) _ h.1 c.put_rows.ensures.wrote (cross-more f ds i 0 rows c.loop-d-test.true),
     )
 
 pub returns : goal.returns

@@ -13,9 +13,9 @@ returns-else-shared c =
     let f : ℕ → ℕ = λ d. place_in x d c.args.p in
     let moves = cross (place_in x) c.args.parts.now (range_with_len c.args.first c.args.count) in
     let heres = map f c.args.heres.now in
-    let p = c.put-crossed.ensures in
-    let q = c.put-places-else-shared.ensures in
+    let p = c.put_crossed.ensures in
+    let q = c.put_places-else-shared.ensures in
     record {
       same = q.same ∙ p.same;
-      wrote = extended-more (table c.args.out.now) (table c.put-crossed.new.out) (table c.put-places-else-shared.new.out) moves heres _ p.wrote q.wrote (cond-false c.args.shared heres _ c.if-shared.false);
+      wrote = extended-more (table c.args.out.now) (table c.put_crossed.new.out) (table c.put_places-else-shared.new.out) moves heres _ p.wrote q.wrote (cond-false c.args.shared heres _ c.if-shared.false);
     }

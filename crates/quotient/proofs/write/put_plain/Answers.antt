@@ -13,8 +13,8 @@ use Rattle.quotient.proofs.write.put_plain.Goals as goal
 pub loop-p-init : goal.loop-p-init
 loop-p-init c = (refl, λ R ts alts planned. refl)
 
-pub node-at-requires : goal.node-at-requires
-node-at-requires c = record { sampling = c.requires.sampling; plain = c.requires.plain; small = omega (arith, c.requires.small, c.loop-p-test.true) }
+pub node_at-requires : goal.node_at-requires
+node_at-requires c = record { sampling = c.requires.sampling; plain = c.requires.plain; small = omega (arith, c.requires.small, c.loop-p-test.true) }
 
 pub loop-p-preserved : goal.loop-p-preserved
 loop-p-preserved c =
@@ -22,7 +22,7 @@ loop-p-preserved c =
     let p = c.put.ensures in
     let x = c.args.plan in
     let k = c.loop-p.p in
-    let put = put_is (table c.loop-p.nodes) (table c.put.new.self) _ _ _ c.node-at.ensures p.puts in (
+    let put = put_is (table c.loop-p.nodes) (table c.put.new.self) _ _ _ c.node_at.ensures p.puts in (
       p.same ∙ h.0,
       λ R ts alts planned.
           let f = node_line R x c.args.node in

@@ -11,12 +11,12 @@ returns-in-Step g c =
     let R = g.S.System.meaning c.args.system.now in
     let alts = table c.args.alternatives.now in
     record {
-      lent = c.put-steps.ensures.lent;
-      wrote = λ ts. c.put-steps.ensures.wrote ts ∙ ap (λ n. lay_all (stored (table c.args.nodes.now) ts alts) (node_lines R c.args.plan (State n))) (sym c.in-Step.is);
+      lent = c.put_steps.ensures.lent;
+      wrote = λ ts. c.put_steps.ensures.wrote ts ∙ ap (λ n. lay_all (stored (table c.args.nodes.now) ts alts) (node_lines R c.args.plan (State n))) (sym c.in-Step.is);
     }
 
-pub put-plain-requires : goal.put-plain-requires
-put-plain-requires g c = record { sampling = c.requires.planned.sampling; plain = plain-state c.args.plan c.args.node c.requires.fit c.in-default.not-Step; width = refl; small = omega (arith, c.requires.planned.states, c.requires.planned.few) }
+pub put_plain-requires : goal.put_plain-requires
+put_plain-requires g c = record { sampling = c.requires.planned.sampling; plain = plain-state c.args.plan c.args.node c.requires.fit c.in_default.not-Step; width = refl; small = omega (arith, c.requires.planned.states, c.requires.planned.few) }
 
-pub returns-in-default : goal.returns-in-default
-returns-in-default g c = record { lent = (c.put-plain.ensures.same, refl); wrote = λ ts. c.put-plain.ensures.wrote (g.S.System.meaning c.args.system.now) ts (table c.args.alternatives.now) c.requires.planned }
+pub returns-in_default : goal.returns-in_default
+returns-in_default g c = record { lent = (c.put_plain.ensures.same, refl); wrote = λ ts. c.put_plain.ensures.wrote (g.S.System.meaning c.args.system.now) ts (table c.args.alternatives.now) c.requires.planned }

@@ -12,13 +12,13 @@ use Rattle.quotient.proofs.write.put_steps.Goals as goal
 pub loop-p-init : goal.loop-p-init
 loop-p-init g c = (refl, refl, λ ts. refl)
 
-pub put-step-requires : goal.put-step-requires
-put-step-requires g c = record { planned = c.requires.planned; inside = omega (arith, c.requires.planned.states, c.loop-p-test.true); fit = c.requires.fit }
+pub put_step-requires : goal.put_step-requires
+put_step-requires g c = record { planned = c.requires.planned; inside = omega (arith, c.requires.planned.states, c.loop-p-test.true); fit = c.requires.fit }
 
 pub loop-p-preserved : goal.loop-p-preserved
 loop-p-preserved g c =
     let h = c.loop-p.invariant in
-    let p = c.put-step.ensures in
+    let p = c.put_step.ensures in
     let f = node_line (g.S.System.meaning c.args.system.now) c.args.plan (State (Step c.args.action c.args.moves c.args.heres)) in
     let k = c.loop-p.p in (
       p.lent.0 ∙ h.0,

@@ -9,27 +9,27 @@ use Rattle.quotient.proofs.Dividing.{light_targets}
 use Rattle.quotient.proofs.Rules.{move-good}
 use Rattle.quotient.proofs.write.put_sum_along.Goals as goal
 
-pub read-targets-count-requires : goal.read-targets-count-requires
-read-targets-count-requires g c =
+pub read_targets-count-requires : goal.read_targets-count-requires
+read_targets-count-requires g c =
     let R = g.S.System.meaning c.args.system.now in
     let good = move-good R (g.met.S.System.sound c.args.system.now).ruled c.args.state c.args.action c.args.number c.requires.inside in
     omega (arith, good.short, c.requires.planned.narrow, c.requires.room)
 
-pub slice-bounds-targets-end : goal.slice-bounds-targets-end
-slice-bounds-targets-end g c =
+pub slice_bounds-targets-end : goal.slice_bounds-targets-end
+slice_bounds-targets-end g c =
     let R = g.S.System.meaning c.args.system.now in
     let good = move-good R (g.met.S.System.sound c.args.system.now).ruled c.args.state c.args.action c.args.number c.requires.inside in
-    omega (arith, good.short, c.requires.planned.narrow, c.requires.room, c.read-targets-count.ensures.count, c.read-targets-count.auto.buffer)
+    omega (arith, good.short, c.requires.planned.narrow, c.requires.room, c.read_targets-count.ensures.count, c.read_targets-count.auto.buffer)
 
-pub put-sum-requires : goal.put-sum-requires
-put-sum-requires g c =
+pub put_sum-requires : goal.put_sum-requires
+put_sum-requires g c =
     let R = g.S.System.meaning c.args.system.now in
     let good = move-good R (g.met.S.System.sound c.args.system.now).ruled c.args.state c.args.action c.args.number c.requires.inside in
-    let whole : c.read-targets-count.result - 0 ≡ length (get_or (R.moves c.args.state c.args.action) c.args.number []) = omega (arith, c.read-targets-count.ensures.count) in
+    let whole : c.read_targets-count.result - 0 ≡ length (get_or (R.moves c.args.state c.args.action) c.args.number []) = omega (arith, c.read_targets-count.ensures.count) in
     let Light : Move → Type 0 = λ mv. All (LightTarget c.args.plan) mv in
     record {
       sampling = c.requires.planned.sampling;
-      targets = subst Light (sym (ap (λ n. take n c.read-targets-count.new.buffer) whole ∙ c.read-targets-count.ensures.read)) (light_targets R c.args.plan c.requires.planned _ good);
+      targets = subst Light (sym (ap (λ n. take n c.read_targets-count.new.buffer) whole ∙ c.read_targets-count.ensures.read)) (light_targets R c.args.plan c.requires.planned _ good);
       fit = c.requires.fit;
     }
 
@@ -37,7 +37,7 @@ pub returns : goal.returns
 returns g c =
     let R = g.S.System.meaning c.args.system.now in
     let x = c.args.plan in
-    let whole : c.read-targets-count.result - 0 ≡ length (get_or (R.moves c.args.state c.args.action) c.args.number []) = omega (arith, c.read-targets-count.ensures.count) in
-    let read = ap (λ n. take n c.read-targets-count.new.buffer) whole ∙ c.read-targets-count.ensures.read in
-    let q = c.put-sum.ensures in
+    let whole : c.read_targets-count.result - 0 ≡ length (get_or (R.moves c.args.state c.args.action) c.args.number []) = omega (arith, c.read_targets-count.ensures.count) in
+    let read = ap (λ n. take n c.read_targets-count.new.buffer) whole ∙ c.read_targets-count.ensures.read in
+    let q = c.put_sum.ensures in
     record { lent = q.lent; wrote = λ alts. q.wrote alts ∙ ap (λ mv. lay (stored (table c.args.nodes.now) (table c.args.terms.now) alts) (sum_at x c.args.threshold (entries x.terms.now c.args.run) mv)) read }

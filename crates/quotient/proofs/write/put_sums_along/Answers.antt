@@ -13,15 +13,15 @@ use Rattle.quotient.proofs.write.put_sums_along.Goals as goal
 pub loop-p-init : goal.loop-p-init
 loop-p-init g c = (refl, refl, λ alts. refl)
 
-pub put-sums-from-requires : goal.put-sums-from-requires
-put-sums-from-requires g c = record { planned = c.requires.planned; fit = c.requires.fit; room = omega (arith, c.requires.room, c.loop-p.auto.buffer) }
+pub put_sums_from-requires : goal.put_sums_from-requires
+put_sums_from-requires g c = record { planned = c.requires.planned; fit = c.requires.fit; room = omega (arith, c.requires.room, c.loop-p.auto.buffer) }
 
 pub loop-p-preserved : goal.loop-p-preserved
 loop-p-preserved g c =
     let R = g.S.System.meaning c.args.system.now in
     let f = sum_at c.args.plan c.args.threshold (entries c.args.plan.terms.now c.args.run) in
     let h = c.loop-p.invariant in
-    let q = c.put-sums-from.ensures in
+    let q = c.put_sums_from.ensures in
     let k = c.loop-p.p in
     let mvs = moves_of R in (
       q.lent.0 ∙ h.0,

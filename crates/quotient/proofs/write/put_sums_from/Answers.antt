@@ -12,15 +12,15 @@ use Rattle.quotient.proofs.write.put_sums_from.Goals as goal
 pub loop-action-init : goal.loop-action-init
 loop-action-init g c = (refl, refl, λ alts. refl)
 
-pub put-sums-on-requires : goal.put-sums-on-requires
-put-sums-on-requires g c = record { planned = c.requires.planned; fit = c.requires.fit; room = omega (arith, c.requires.room, c.loop-action.auto.buffer) }
+pub put_sums_on-requires : goal.put_sums_on-requires
+put_sums_on-requires g c = record { planned = c.requires.planned; fit = c.requires.fit; room = omega (arith, c.requires.room, c.loop-action.auto.buffer) }
 
 pub loop-action-preserved : goal.loop-action-preserved
 loop-action-preserved g c =
     let R = g.S.System.meaning c.args.system.now in
     let f = sum_at c.args.plan c.args.threshold (entries c.args.plan.terms.now c.args.run) in
     let h = c.loop-action.invariant in
-    let q = c.put-sums-on.ensures in
+    let q = c.put_sums_on.ensures in
     let k = c.loop-action.action in
     let mvs = R.moves c.args.state in (
       q.lent.0 ∙ h.0,

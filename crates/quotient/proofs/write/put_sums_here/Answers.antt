@@ -12,8 +12,8 @@ use Rattle.quotient.proofs.write.put_sums_here.Goals as goal
 pub loop-p-init : goal.loop-p-init
 loop-p-init g c = (refl, refl, λ alts. refl)
 
-pub put-sum-requires : goal.put-sum-requires
-put-sum-requires g c = record {
+pub put_sum-requires : goal.put_sum-requires
+put_sum-requires g c = record {
   sampling = c.requires.planned.sampling;
   targets = (record { near = omega (arith, c.requires.planned.states, c.requires.planned.few, c.loop-p-test.true); light = omega arith }, tt);
   fit = c.requires.fit;
@@ -24,7 +24,7 @@ loop-p-preserved g c =
     let R = g.S.System.meaning c.args.system.now in
     let f = sum_at c.args.plan c.args.threshold (entries c.args.plan.terms.now c.args.run) in
     let h = c.loop-p.invariant in
-    let q = c.put-sum.ensures in
+    let q = c.put_sum.ensures in
     let k = c.loop-p.p in
     let here : ℕ → Line = λ p. f (point R p) in (
       q.lent.0 ∙ h.0,

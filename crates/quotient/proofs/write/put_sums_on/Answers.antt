@@ -10,15 +10,15 @@ use Rattle.quotient.proofs.write.put_sums_on.Goals as goal
 pub loop-k-init : goal.loop-k-init
 loop-k-init g c = (refl, refl, λ alts. refl)
 
-pub put-sum-along-requires : goal.put-sum-along-requires
-put-sum-along-requires g c = record { planned = c.requires.planned; inside = omega (arith, c.moves-count.ensures, c.loop-k-test.true); fit = c.requires.fit; room = omega (arith, c.requires.room, c.loop-k.auto.buffer) }
+pub put_sum_along-requires : goal.put_sum_along-requires
+put_sum_along-requires g c = record { planned = c.requires.planned; inside = omega (arith, c.moves-count.ensures, c.loop-k-test.true); fit = c.requires.fit; room = omega (arith, c.requires.room, c.loop-k.auto.buffer) }
 
 pub loop-k-preserved : goal.loop-k-preserved
 loop-k-preserved g c =
     let R = g.S.System.meaning c.args.system.now in
     let f = sum_at c.args.plan c.args.threshold (entries c.args.plan.terms.now c.args.run) in
     let h = c.loop-k.invariant in
-    let q = c.put-sum-along.ensures in
+    let q = c.put_sum_along.ensures in
     let k = c.loop-k.k in
     let mvs = R.moves c.args.state c.args.action in
     let within : k < length mvs = omega (arith, c.moves-count.ensures, c.loop-k-test.true) in (

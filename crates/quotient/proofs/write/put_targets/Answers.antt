@@ -11,13 +11,13 @@ use Rattle.quotient.proofs.write.put_targets.Goals as goal
 pub loop-t-init : goal.loop-t-init
 loop-t-init c = (refl, refl)
 
-pub overflow-mul-term : goal.overflow-mul-term
-overflow-mul-term c =
+pub overflow_mul-term : goal.overflow_mul-term
+overflow_mul-term c =
     let t = All-get_or (LightTarget c.args.plan) c.args.targets.now c.loop-t.t-index no_target c.loop-t-test.true c.requires.targets in
     omega (arith, mul-le-mul_left c.args.term.coefficient t.light, c.requires.term.light)
 
-pub overflow-cast-before : goal.overflow-cast-before
-overflow-cast-before c =
+pub overflow_cast-before : goal.overflow_cast-before
+overflow_cast-before c =
     let t = All-get_or (LightTarget c.args.plan) c.args.targets.now c.loop-t.t-index no_target c.loop-t-test.true c.requires.targets in
     omega (arith, t.near, c.offset-before.ensures.small)
 

@@ -13,8 +13,8 @@ use Rattle.quotient.proofs.write.put_terms.Goals as goal
 pub loop-t-init : goal.loop-t-init
 loop-t-init c = (refl, ap (extended (table c.args.out.now)) (sym (cross-none (term_at c.args.plan) c.args.targets.now)))
 
-pub put-targets-requires : goal.put-targets-requires
-put-targets-requires c = record {
+pub put_targets-requires : goal.put_targets-requires
+put_targets-requires c = record {
   sampling = c.requires.sampling;
   targets = c.requires.targets;
   term = All-get_or (LightTerm c.args.plan) c.args.parts.now c.loop-t.t-index no-term c.loop-t-test.true c.requires.terms;
@@ -27,8 +27,8 @@ loop-t-preserved c =
     let ks = c.args.parts.now in
     let i = c.loop-t.t-index in
     let mv = c.args.targets.now in (
-      c.put-targets.ensures.same ∙ h.0,
-      extended-more (table c.args.out.now) (table c.loop-t.out) (table c.put-targets.new.out) (cross f (take i ks) mv) (map (f (get_or ks i no-term)) mv) _ h.1 c.put-targets.ensures.wrote (cross-more f ks i no-term mv c.loop-t-test.true),
+      c.put_targets.ensures.same ∙ h.0,
+      extended-more (table c.args.out.now) (table c.loop-t.out) (table c.put_targets.new.out) (cross f (take i ks) mv) (map (f (get_or ks i no-term)) mv) _ h.1 c.put_targets.ensures.wrote (cross-more f ks i no-term mv c.loop-t-test.true),
     )
 
 pub returns : goal.returns

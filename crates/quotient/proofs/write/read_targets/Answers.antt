@@ -6,8 +6,8 @@ use Rattle.quotient.proofs.write.read_targets.Goals as goal
 pub loop-index-init : goal.loop-index-init
 loop-index-init g c = refl
 
-pub target-at-requires : goal.target-at-requires
-target-at-requires g c = omega (arith, c.targets-count.ensures, c.loop-index-test.true)
+pub target_at-requires : goal.target_at-requires
+target_at-requires g c = omega (arith, c.targets-count.ensures, c.loop-index-test.true)
 
 pub loop-index-preserved : goal.loop-index-preserved
 loop-index-preserved g c =
@@ -15,7 +15,7 @@ loop-index-preserved g c =
     let i = c.loop-index.index in
     let within : i < length mv = omega (arith, c.targets-count.ensures, c.loop-index-test.true) in
     let room : i < length c.loop-index.buffer = omega (arith, c.requires.room, c.loop-index.auto.buffer) in
-    take_more_set c.loop-index.buffer i _ room ∙ ap₂ (λ l t. l ++ (t ∷ [])) c.loop-index.invariant c.target-at.ensures ∙ sym (take_more mv i no_target within)
+    take_more_set c.loop-index.buffer i _ room ∙ ap₂ (λ l t. l ++ (t ∷ [])) c.loop-index.invariant c.target_at.ensures ∙ sym (take_more mv i no_target within)
 
 pub returns : goal.returns
 returns g c =

@@ -11,8 +11,8 @@ loop-i-init c =
     let s = slots c.args.nodes.now c.args.terms.now c.args.alternatives.now in
     compacting_none (is_ticked c.args.map.now) (all_lines s) s c.args.map.now
 
-pub compact-at-used-requires : goal.compact-at-used-requires
-compact-at-used-requires c =
+pub compact_at-used-requires : goal.compact_at-used-requires
+compact_at-used-requires c =
     let room : c.loop-i.i < length c.loop-i.map = omega (arith, c.loop-i-test.true, c.loop-i.auto.map, c.requires.room) in
     record {
       node = omega (arith, c.loop-i-test.true, c.loop-i.auto.nodes);
@@ -33,13 +33,13 @@ loop-i-preserved c =
     (λ (e : get_or c.loop-i.map c.loop-i.i 0 ≡ 1).
     kept-turn (slots c.args.nodes.now c.args.terms.now c.args.alternatives.now) c.requires.packed c.args.map.now c.requires.closed
     c.loop-i.i c.loop-i.used (slots c.loop-i.nodes c.loop-i.terms c.loop-i.alternatives) c.loop-i.map c.loop-i.invariant c.loop-i-test.true
-    c.compact-at-used.result (slots c.compact-at-used.new.nodes c.compact-at-used.new.terms c.compact-at-used.new.alternatives) c.compact-at-used.new.map
-    room e (c.compact-at-used.ensures.kept e))
+    c.compact_at-used.result (slots c.compact_at-used.new.nodes c.compact_at-used.new.terms c.compact_at-used.new.alternatives) c.compact_at-used.new.map
+    room e (c.compact_at-used.ensures.kept e))
     (λ (e : get_or c.loop-i.map c.loop-i.i 0 ≡ 1 → ⊥).
     gone-turn (slots c.args.nodes.now c.args.terms.now c.args.alternatives.now) c.requires.packed c.args.map.now c.requires.closed
     c.loop-i.i c.loop-i.used (slots c.loop-i.nodes c.loop-i.terms c.loop-i.alternatives) c.loop-i.map c.loop-i.invariant c.loop-i-test.true
-    c.compact-at-used.result (slots c.compact-at-used.new.nodes c.compact-at-used.new.terms c.compact-at-used.new.alternatives) c.compact-at-used.new.map
-    e (c.compact-at-used.ensures.gone e))
+    c.compact_at-used.result (slots c.compact_at-used.new.nodes c.compact_at-used.new.terms c.compact_at-used.new.alternatives) c.compact_at-used.new.map
+    e (c.compact_at-used.ensures.gone e))
     (cases_eq (get_or c.loop-i.map c.loop-i.i 0) 1)
 
 pub returns : goal.returns

@@ -24,8 +24,8 @@ bounds-alternatives-end c = omega (
       c.requires.past c.requires.within c.loop-k-test.true,
 )
 
-pub offset-bounds-alternatives-end : goal.offset-bounds-alternatives-end
-offset-bounds-alternatives-end c = omega (
+pub offset_bounds-alternatives-end : goal.offset_bounds-alternatives-end
+offset_bounds-alternatives-end c = omega (
   arith,
   c.requires.small,
   c.requires.within,
@@ -34,8 +34,8 @@ offset-bounds-alternatives-end c = omega (
       c.requires.past c.requires.within c.loop-k-test.true,
 )
 
-pub overflow-cast-alternatives-in-loop-k : goal.overflow-cast-alternatives-in-loop-k
-overflow-cast-alternatives-in-loop-k c = omega (
+pub overflow_cast-alternatives-in-loop-k : goal.overflow_cast-alternatives-in-loop-k
+overflow_cast-alternatives-in-loop-k c = omega (
   arith,
   c.requires.small,
   c.requires.within,
@@ -44,8 +44,8 @@ overflow-cast-alternatives-in-loop-k c = omega (
       c.requires.past c.requires.within c.loop-k-test.true,
 )
 
-pub overflow-add-end : goal.overflow-add-end
-overflow-add-end c = omega (
+pub overflow_add-end : goal.overflow_add-end
+overflow_add-end c = omega (
   arith,
   c.requires.small,
   c.requires.within,

@@ -9,17 +9,17 @@ use Rattle.simplification.specs.Compacting.{new_number}
 use Rattle.simplification.proofs.Turns.{heres-same, both-moved, length_run}
 use Rattle.simplification.proofs.compact.move_step.Goals as goal
 
-pub move-alternatives-end-requires : goal.move-alternatives-end-requires
-move-alternatives-end-requires c =
+pub move_alternatives-end-requires : goal.move_alternatives-end-requires
+move_alternatives-end-requires c =
     let xs = c.args.alternatives.now in
     let f = new_number c.args.numbers.now in
-    let moved = c.move-alternatives-middle.ensures.moved in
+    let moved = c.move_alternatives-middle.ensures.moved in
     let count = length_run f xs c.args.moves (omega (arith, c.requires.next, c.requires.within)) in
-    let same = heres-same (map f) xs c.move-alternatives-middle.new.alternatives c.args.moves c.args.heres c.args.start (omega (arith, count)) c.requires.past c.requires.next c.requires.within moved in
+    let same = heres-same (map f) xs c.move_alternatives-middle.new.alternatives c.args.moves c.args.heres c.args.start (omega (arith, count)) c.requires.past c.requires.next c.requires.within moved in
     record {
-      past = omega (arith, count, c.requires.past, c.requires.next, c.move-alternatives-middle.ensures.end);
-      within = omega (arith, c.requires.within, c.move-alternatives-middle.auto.alternatives);
-      small = omega (arith, c.requires.small, c.move-alternatives-middle.auto.alternatives);
+      past = omega (arith, count, c.requires.past, c.requires.next, c.move_alternatives-middle.ensures.end);
+      within = omega (arith, c.requires.within, c.move_alternatives-middle.auto.alternatives);
+      small = omega (arith, c.requires.small, c.move_alternatives-middle.auto.alternatives);
       below = subst (All (λ d. d < length c.args.numbers.now)) (sym same) c.requires.heres;
     }
 
@@ -29,18 +29,18 @@ returns c =
     let f = new_number c.args.numbers.now in
     let mv = c.args.moves in
     let h = c.args.heres in
-    let moved = c.move-alternatives-middle.ensures.moved in
+    let moved = c.move_alternatives-middle.ensures.moved in
     let count = length_run f xs mv (omega (arith, c.requires.next, c.requires.within)) in
     let here = length_run f xs h c.requires.within in
-    let ys = c.move-alternatives-middle.new.alternatives in
+    let ys = c.move_alternatives-middle.new.alternatives in
     let same = heres-same (map f) xs ys mv h c.args.start (omega (arith, count)) c.requires.past c.requires.next c.requires.within moved in
     let all =
     both-moved (map f) xs ys mv h c.args.start (omega (arith, count)) c.requires.past c.requires.next c.requires.within moved
-    c.move-alternatives-end.new.alternatives c.move-alternatives-middle.result c.move-alternatives-middle.ensures.end c.move-alternatives-end.ensures.moved in
-    let middle = c.move-alternatives-middle.ensures.end in
+    c.move_alternatives-end.new.alternatives c.move_alternatives-middle.result c.move_alternatives-middle.ensures.end c.move_alternatives-end.ensures.moved in
+    let middle = c.move_alternatives-middle.ensures.end in
     record {
       is = λ i. State (sn.TheVariants.Step c.args.action (run c.args.start (sym count i)) (run (middle i) (sym here i)));
       end =
-          omega (arith, c.move-alternatives-end.ensures.end, ap (λ ds. length (map f ds)) same, middle, length-append (map f (entries xs mv)) (map f (entries xs h)));
+          omega (arith, c.move_alternatives-end.ensures.end, ap (λ ds. length (map f ds)) same, middle, length-append (map f (entries xs mv)) (map f (entries xs h)));
       alternatives = all;
     }

@@ -12,6 +12,6 @@ returns c =
     let count = length_run (retarget (new_number c.args.numbers.now)) c.args.terms.now c.args.run c.requires.within in
     record {
       is = λ i. Dist (dn.TheVariants.Sum c.args.threshold (run c.args.start (sym count i)));
-      end = c.move-terms-end.ensures.end;
-      terms = c.move-terms-end.ensures.moved;
+      end = c.move_terms-end.ensures.end;
+      terms = c.move_terms-end.ensures.moved;
     }

@@ -26,8 +26,8 @@ bounds-terms-end c = omega (
       c.requires.past c.requires.within c.loop-k-test.true,
 )
 
-pub offset-bounds-terms-end : goal.offset-bounds-terms-end
-offset-bounds-terms-end c = omega (
+pub offset_bounds-terms-end : goal.offset_bounds-terms-end
+offset_bounds-terms-end c = omega (
   arith,
   c.requires.small,
   c.requires.within,
@@ -36,8 +36,8 @@ offset-bounds-terms-end c = omega (
       c.requires.past c.requires.within c.loop-k-test.true,
 )
 
-pub overflow-cast-end : goal.overflow-cast-end
-overflow-cast-end c = omega (
+pub overflow_cast-end : goal.overflow_cast-end
+overflow_cast-end c = omega (
   arith,
   c.requires.small,
   c.requires.within,
@@ -46,8 +46,8 @@ overflow-cast-end c = omega (
       c.requires.past c.requires.within c.loop-k-test.true,
 )
 
-pub overflow-add-end : goal.overflow-add-end
-overflow-add-end c = omega (
+pub overflow_add-end : goal.overflow_add-end
+overflow_add-end c = omega (
   arith,
   c.requires.small,
   c.requires.within,

@@ -20,8 +20,8 @@ loop-i-init c =
     ticks_start ls c.args.ticks.now c.args.root (length c.args.nodes.now) c.requires.blank c.requires.root
     (omega (arith, length-map c.args.nodes.now (line c.args.terms.now c.args.alternatives.now)))
 
-pub reach-at-requires : goal.reach-at-requires
-reach-at-requires c =
+pub reach_at-requires : goal.reach_at-requires
+reach_at-requires c =
     let s₀ = slots c.args.nodes.now c.args.terms.now c.args.alternatives.now in
     let i : ℕ = c.loop-i.i - 1 in
     let h : i < length c.args.nodes.now = omega (arith, c.loop-i.auto.i, c.loop-i-test.true) in
@@ -45,7 +45,7 @@ loop-i-preserved c =
     sym (get_or-map (line c.args.terms.now c.args.alternatives.now) c.args.nodes.now i blank_node (constant state true) h) in
     let inv : Ticks c.loop-i.ticks (reached (i + 1) (drop (i + 1) ls) (c.args.root ∷ [])) =
     subst (λ (k : ℕ). Ticks c.loop-i.ticks (reached k (drop k ls) (c.args.root ∷ []))) s c.loop-i.invariant in
-    ticks-turn ls (c.args.root ∷ []) i (omega (arith, long)) c.loop-i.ticks c.reach-at.new.ticks (omega (arith, long, same, c.requires.long))
+    ticks-turn ls (c.args.root ∷ []) i (omega (arith, long)) c.loop-i.ticks c.reach_at.new.ticks (omega (arith, long, same, c.requires.long))
     (All-weaker (λ d. d < i) (λ d. d < length c.loop-i.ticks) (λ d l. omega (arith, same, c.requires.long)) (parts (line_at ls i)) (formed-ordered ls c.requires.packed.formed i (omega (arith, long))))
     inv
-    (c.reach-at.ensures ∙ ap (λ (l : Line). cond (eqb (get_or c.loop-i.ticks i 0) 1) (ticked c.loop-i.ticks (parts l)) c.loop-i.ticks) at)
+    (c.reach_at.ensures ∙ ap (λ (l : Line). cond (eqb (get_or c.loop-i.ticks i 0) 1) (ticked c.loop-i.ticks (parts l)) c.loop-i.ticks) at)

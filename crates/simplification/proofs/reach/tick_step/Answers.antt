@@ -6,19 +6,19 @@ use Rattle.simplification.specs.Reaching.{ticked}
 use Rattle.simplification.proofs.Ticking.{ticked-append}
 use Rattle.simplification.proofs.reach.tick_step.Goals as goal
 
-pub tick-all-requires : goal.tick-all-requires
-tick-all-requires c = subst (All (λ d. d < length c.args.ticks.now)) (sym c.entries-of.ensures) c.requires.moves
+pub tick_all-requires : goal.tick_all-requires
+tick_all-requires c = subst (All (λ d. d < length c.args.ticks.now)) (sym c.entries_of.ensures) c.requires.moves
 
-pub tick-all-requires-2 : goal.tick-all-requires-2
-tick-all-requires-2 c =
-    subst (All (λ d. d < length c.tick-all.new.ticks)) (sym c.entries-of-2.ensures)
-    (All-weaker (λ d. d < length c.args.ticks.now) (λ d. d < length c.tick-all.new.ticks) (λ d h. omega (arith, c.tick-all.auto.ticks))
+pub tick_all-requires-2 : goal.tick_all-requires-2
+tick_all-requires-2 c =
+    subst (All (λ d. d < length c.tick_all.new.ticks)) (sym c.entries_of-2.ensures)
+    (All-weaker (λ d. d < length c.args.ticks.now) (λ d. d < length c.tick_all.new.ticks) (λ d h. omega (arith, c.tick_all.auto.ticks))
     (entries c.args.alternatives.now c.args.heres) c.requires.heres)
 
 pub returns : goal.returns
 returns c =
     let alts = c.args.alternatives.now in
     let ticks = c.args.ticks.now in
-    c.tick-all-2.ensures
-    ∙ (ap₂ (λ (m ks : List ℕ). ticked m ks) (c.tick-all.ensures ∙ ap (ticked ticks) c.entries-of.ensures) c.entries-of-2.ensures
+    c.tick_all-2.ensures
+    ∙ (ap₂ (λ (m ks : List ℕ). ticked m ks) (c.tick_all.ensures ∙ ap (ticked ticks) c.entries_of.ensures) c.entries_of-2.ensures
     ∙ sym (ticked-append ticks (entries alts c.args.moves) (entries alts c.args.heres)))

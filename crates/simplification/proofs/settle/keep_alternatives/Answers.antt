@@ -4,15 +4,15 @@ use Rattle.simplification.specs.Settling.{glance, Led}
 use Rattle.simplification.proofs.Puts.{moving-none, moving-all}
 use Rattle.simplification.proofs.Keeping.{entry_at, end_low, turn-take, turn-skip}
 use Rattle.simplification.proofs.settle.keep_alternatives.Goals as goal
-use Rattle.simplification.proofs.settle.keep_alternatives.Goals.{then-not-is-no, else-not-is-no}
+use Rattle.simplification.proofs.settle.keep_alternatives.Goals.{then-not-is_no, else-not-is_no}
 
 pub loop-k-init : goal.loop-k-init
 loop-k-init c =
     let E = glance c.args.nodes.now c.args.map.now in
     moving-none (λ d. not (is_no (tone_of E d))) (λ d. (E d).to) c.args.alternatives.now c.args.run.first c.args.start
 
-pub see-part-requires : goal.see-part-requires
-see-part-requires c =
+pub see_part-requires : goal.see_part-requires
+see_part-requires c =
     let E = glance c.args.nodes.now c.args.map.now in
     let led = entry_at (λ d. not (is_no (tone_of E d))) (λ d. (E d).to) c.args.alternatives.now c.loop-k.alternatives c.args.run c.args.start c.loop-k.k c.loop-k.end c.loop-k.invariant
     c.requires.past c.requires.within c.loop-k-test.true (Led c.args.nodes.now c.args.map.now) 0 c.requires.led in
@@ -36,8 +36,8 @@ bounds-alternatives-end c =
           c.requires.past c.requires.within c.loop-k-test.true,
     )
 
-pub overflow-cast-alternatives-then-not-is-no : goal.overflow-cast-alternatives-then-not-is-no
-overflow-cast-alternatives-then-not-is-no c =
+pub overflow_cast-alternatives-then-not-is_no : goal.overflow_cast-alternatives-then-not-is_no
+overflow_cast-alternatives-then-not-is_no c =
     let E = glance c.args.nodes.now c.args.map.now in
     omega (
       arith,
@@ -48,8 +48,8 @@ overflow-cast-alternatives-then-not-is-no c =
           c.requires.past c.requires.within c.loop-k-test.true,
     )
 
-pub offset-bounds-alternatives-end : goal.offset-bounds-alternatives-end
-offset-bounds-alternatives-end c =
+pub offset_bounds-alternatives-end : goal.offset_bounds-alternatives-end
+offset_bounds-alternatives-end c =
     let E = glance c.args.nodes.now c.args.map.now in
     omega (
       arith,
@@ -60,8 +60,8 @@ offset-bounds-alternatives-end c =
           c.requires.past c.requires.within c.loop-k-test.true,
     )
 
-pub overflow-add-end : goal.overflow-add-end
-overflow-add-end c =
+pub overflow_add-end : goal.overflow_add-end
+overflow_add-end c =
     let E = glance c.args.nodes.now c.args.map.now in
     omega (
       arith,
@@ -75,12 +75,12 @@ overflow-add-end c =
 pub loop-k-preserved : goal.loop-k-preserved
 loop-k-preserved c =
     let E = glance c.args.nodes.now c.args.map.now in
-    let told = sym (c.is-no.ensures ∙ ap is_no c.see-part.ensures) in
-    elim c.if-not-is-no.branch [
-      | then-not-is-no w ↦ turn-take (λ d. not (is_no (tone_of E d))) (λ d. (E d).to) c.args.alternatives.now c.loop-k.alternatives c.args.run c.args.start c.loop-k.k c.loop-k.end c.loop-k.invariant
-          c.requires.past c.requires.within c.loop-k-test.true 0 _ _ _ (ap not (told ∙ w.if-not-is-no.true)) refl w.alternatives-is w.end-is
-      | else-not-is-no w ↦ turn-skip (λ d. not (is_no (tone_of E d))) (λ d. (E d).to) c.args.alternatives.now c.loop-k.alternatives c.args.run c.args.start c.loop-k.k c.loop-k.end c.loop-k.invariant
-          c.requires.past c.requires.within c.loop-k-test.true 0 _ _ (ap not (told ∙ w.if-not-is-no.false)) w.alternatives-is w.end-is
+    let told = sym (c.is_no.ensures ∙ ap is_no c.see_part.ensures) in
+    elim c.if-not-is_no.branch [
+      | then-not-is_no w ↦ turn-take (λ d. not (is_no (tone_of E d))) (λ d. (E d).to) c.args.alternatives.now c.loop-k.alternatives c.args.run c.args.start c.loop-k.k c.loop-k.end c.loop-k.invariant
+          c.requires.past c.requires.within c.loop-k-test.true 0 _ _ _ (ap not (told ∙ w.if-not-is_no.true)) refl w.alternatives-is w.end-is
+      | else-not-is_no w ↦ turn-skip (λ d. not (is_no (tone_of E d))) (λ d. (E d).to) c.args.alternatives.now c.loop-k.alternatives c.args.run c.args.start c.loop-k.k c.loop-k.end c.loop-k.invariant
+          c.requires.past c.requires.within c.loop-k-test.true 0 _ _ (ap not (told ∙ w.if-not-is_no.false)) w.alternatives-is w.end-is
     ]
 
 pub returns : goal.returns

@@ -5,15 +5,15 @@ use Rattle.simplification.specs.Settling.{glance, Led}
 use Rattle.simplification.proofs.Puts.{moving-none, moving-all}
 use Rattle.simplification.proofs.Keeping.{entry_at, end_low, turn-take, turn-skip}
 use Rattle.simplification.proofs.settle.keep_terms.Goals as goal
-use Rattle.simplification.proofs.settle.keep_terms.Goals.{then-is-open, else-is-open}
+use Rattle.simplification.proofs.settle.keep_terms.Goals.{then-is_open, else-is_open}
 
 pub loop-k-init : goal.loop-k-init
 loop-k-init c =
     let E = glance c.args.nodes.now c.args.map.now in
     moving-none (λ k. is_neither (tone_of E k.node)) (retarget (λ j. (E j).to)) c.args.terms.now c.args.run.first c.args.start
 
-pub see-part-requires : goal.see-part-requires
-see-part-requires c =
+pub see_part-requires : goal.see_part-requires
+see_part-requires c =
     let E = glance c.args.nodes.now c.args.map.now in
     let led = entry_at (λ k. is_neither (tone_of E k.node)) (retarget (λ j. (E j).to)) c.args.terms.now c.loop-k.terms c.args.run c.args.start c.loop-k.k c.loop-k.end c.loop-k.invariant
     c.requires.past c.requires.within c.loop-k-test.true (λ k. Led c.args.nodes.now c.args.map.now k.node) blank_term c.requires.led in
@@ -37,8 +37,8 @@ bounds-terms-end c =
           c.requires.past c.requires.within c.loop-k-test.true,
     )
 
-pub overflow-cast-end : goal.overflow-cast-end
-overflow-cast-end c =
+pub overflow_cast-end : goal.overflow_cast-end
+overflow_cast-end c =
     let E = glance c.args.nodes.now c.args.map.now in
     omega (
       arith,
@@ -49,8 +49,8 @@ overflow-cast-end c =
           c.requires.past c.requires.within c.loop-k-test.true,
     )
 
-pub offset-bounds-terms-end : goal.offset-bounds-terms-end
-offset-bounds-terms-end c =
+pub offset_bounds-terms-end : goal.offset_bounds-terms-end
+offset_bounds-terms-end c =
     let E = glance c.args.nodes.now c.args.map.now in
     omega (
       arith,
@@ -61,8 +61,8 @@ offset-bounds-terms-end c =
           c.requires.past c.requires.within c.loop-k-test.true,
     )
 
-pub overflow-add-end : goal.overflow-add-end
-overflow-add-end c =
+pub overflow_add-end : goal.overflow_add-end
+overflow_add-end c =
     let E = glance c.args.nodes.now c.args.map.now in
     omega (
       arith,
@@ -76,12 +76,12 @@ overflow-add-end c =
 pub loop-k-preserved : goal.loop-k-preserved
 loop-k-preserved c =
     let E = glance c.args.nodes.now c.args.map.now in
-    let told = sym (c.is-open.ensures ∙ ap is_neither c.see-part.ensures) in
-    elim c.if-is-open.branch [
-      | then-is-open w ↦ turn-take (λ k. is_neither (tone_of E k.node)) (retarget (λ j. (E j).to)) c.args.terms.now c.loop-k.terms c.args.run c.args.start c.loop-k.k c.loop-k.end c.loop-k.invariant
-          c.requires.past c.requires.within c.loop-k-test.true blank_term _ _ _ (told ∙ w.if-is-open.true) refl w.terms-is w.end-is
-      | else-is-open w ↦ turn-skip (λ k. is_neither (tone_of E k.node)) (retarget (λ j. (E j).to)) c.args.terms.now c.loop-k.terms c.args.run c.args.start c.loop-k.k c.loop-k.end c.loop-k.invariant
-          c.requires.past c.requires.within c.loop-k-test.true blank_term _ _ (told ∙ w.if-is-open.false) w.terms-is w.end-is
+    let told = sym (c.is_open.ensures ∙ ap is_neither c.see_part.ensures) in
+    elim c.if-is_open.branch [
+      | then-is_open w ↦ turn-take (λ k. is_neither (tone_of E k.node)) (retarget (λ j. (E j).to)) c.args.terms.now c.loop-k.terms c.args.run c.args.start c.loop-k.k c.loop-k.end c.loop-k.invariant
+          c.requires.past c.requires.within c.loop-k-test.true blank_term _ _ _ (told ∙ w.if-is_open.true) refl w.terms-is w.end-is
+      | else-is_open w ↦ turn-skip (λ k. is_neither (tone_of E k.node)) (retarget (λ j. (E j).to)) c.args.terms.now c.loop-k.terms c.args.run c.args.start c.loop-k.k c.loop-k.end c.loop-k.invariant
+          c.requires.past c.requires.within c.loop-k-test.true blank_term _ _ (told ∙ w.if-is_open.false) w.terms-is w.end-is
     ]
 
 pub returns : goal.returns

@@ -7,18 +7,18 @@ use Rattle.simplification.specs.Moving.{put}
 use Rattle.simplification.proofs.Turns.{left-short, stepped, gap, heres-same, both-moved}
 use Rattle.simplification.proofs.settle.settle_step.Goals as goal
 
-pub keep-alternatives-end-requires : goal.keep-alternatives-end-requires
-keep-alternatives-end-requires c =
+pub keep_alternatives-end-requires : goal.keep_alternatives-end-requires
+keep_alternatives-end-requires c =
     let E = glance c.args.nodes.now c.args.map.now in
     let xs = c.args.alternatives.now in
-    let moved = c.keep-alternatives-middle.ensures.moved in
+    let moved = c.keep_alternatives-middle.ensures.moved in
     let short = left-short E xs c.args.moves (omega (arith, c.requires.next, c.requires.within)) in
-    let free = gap (alternatives_left E) xs c.keep-alternatives-middle.new.alternatives c.args.moves c.args.heres c.args.start short c.requires.past c.requires.next c.requires.within moved in
-    let same = heres-same (alternatives_left E) xs c.keep-alternatives-middle.new.alternatives c.args.moves c.args.heres c.args.start short c.requires.past c.requires.next c.requires.within moved in
+    let free = gap (alternatives_left E) xs c.keep_alternatives-middle.new.alternatives c.args.moves c.args.heres c.args.start short c.requires.past c.requires.next c.requires.within moved in
+    let same = heres-same (alternatives_left E) xs c.keep_alternatives-middle.new.alternatives c.args.moves c.args.heres c.args.start short c.requires.past c.requires.next c.requires.within moved in
     record {
-      past = omega (arith, free, c.keep-alternatives-middle.ensures.end);
-      within = omega (arith, c.requires.within, c.keep-alternatives-middle.auto.alternatives);
-      small = omega (arith, c.requires.small, c.keep-alternatives-middle.auto.alternatives);
+      past = omega (arith, free, c.keep_alternatives-middle.ensures.end);
+      within = omega (arith, c.requires.within, c.keep_alternatives-middle.auto.alternatives);
+      small = omega (arith, c.requires.small, c.keep_alternatives-middle.auto.alternatives);
       led = subst (All (Led c.args.nodes.now c.args.map.now)) (sym same) c.requires.heres;
     }
 
@@ -29,12 +29,12 @@ returns c =
     let h = c.args.heres in
     let ms = alternatives_left E (entries xs c.args.moves) in
     let hs = alternatives_left E (entries xs h) in
-    let moved = c.keep-alternatives-middle.ensures.moved in
+    let moved = c.keep_alternatives-middle.ensures.moved in
     let short = left-short E xs c.args.moves (omega (arith, c.requires.next, c.requires.within)) in
-    let same = heres-same (alternatives_left E) xs c.keep-alternatives-middle.new.alternatives c.args.moves h c.args.start short c.requires.past c.requires.next c.requires.within moved in
-    let all = both-moved (alternatives_left E) xs c.keep-alternatives-middle.new.alternatives c.args.moves h c.args.start short c.requires.past c.requires.next c.requires.within moved
-    c.keep-alternatives-end.new.alternatives c.keep-alternatives-middle.result c.keep-alternatives-middle.ensures.end c.keep-alternatives-end.ensures.moved in
-    let none = ap (has_yes E) (sym c.entries-of.ensures) ∙ (sym c.some-yes.ensures ∙ c.if-some-yes.false) in
-    let step = stepped c.args.action c.args.start c.keep-alternatives-middle.result c.keep-alternatives-end.result ms hs (has_yes E (entries xs h))
-    c.keep-alternatives-middle.ensures.end (c.keep-alternatives-end.ensures.end ∙ ap (λ ds. c.keep-alternatives-middle.result + length (alternatives_left E ds)) same) c.if-end-start.false none in
+    let same = heres-same (alternatives_left E) xs c.keep_alternatives-middle.new.alternatives c.args.moves h c.args.start short c.requires.past c.requires.next c.requires.within moved in
+    let all = both-moved (alternatives_left E) xs c.keep_alternatives-middle.new.alternatives c.args.moves h c.args.start short c.requires.past c.requires.next c.requires.within moved
+    c.keep_alternatives-end.new.alternatives c.keep_alternatives-middle.result c.keep_alternatives-middle.ensures.end c.keep_alternatives-end.ensures.moved in
+    let none = ap (has_yes E) (sym c.entries_of.ensures) ∙ (sym c.some_yes.ensures ∙ c.if-some_yes.false) in
+    let step = stepped c.args.action c.args.start c.keep_alternatives-middle.result c.keep_alternatives-end.result ms hs (has_yes E (entries xs h))
+    c.keep_alternatives-middle.ensures.end (c.keep_alternatives-end.ensures.end ∙ ap (λ ds. c.keep_alternatives-middle.result + length (alternatives_left E ds)) same) c.if-end-start.false none in
     record { to = refl; laid = record { is = step.is; end = step.end; alternatives = all ∙ ap (λ ds. put c.args.start ds xs) step.all } }

@@ -10,8 +10,8 @@ use Rattle.simplification.proofs.settle.weigh.Goals as goal
 pub loop-t-init : goal.loop-t-init
 loop-t-init c = record { threshold = omega arith; lack = omega arith }
 
-pub see-part-requires : goal.see-part-requires
-see-part-requires c =
+pub see_part-requires : goal.see_part-requires
+see_part-requires c =
     let led =
     All-get_or (λ k. Led c.args.nodes.now c.args.map.now k.node) c.args.terms.now c.loop-t.t-index blank_term c.loop-t-test.true c.requires in
     record { part = led.0; node = led.1 }
@@ -21,9 +21,9 @@ loop-t-preserved c =
     let E = glance c.args.nodes.now c.args.map.now in
     let k = get_or c.args.terms.now c.loop-t.t-index blank_term in
     weighing-more E c.args.threshold c.args.terms.now c.loop-t.t-index c.loop-t.rest.threshold c.loop-t.rest.lack c.loop-t.invariant blank_term c.loop-t-test.true
-    c.weigh-term-rest.result.threshold c.weigh-term-rest.result.lack
-    (c.weigh-term-rest.ensures.threshold ∙ ap (λ (o : Tone). c.loop-t.rest.threshold - cond (is_yes o) k.coefficient 0) c.see-part.ensures)
-    (c.weigh-term-rest.ensures.lack ∙ ap (λ (o : Tone). c.loop-t.rest.lack - cond (is_no o) 0 k.coefficient) c.see-part.ensures)
+    c.weigh_term-rest.result.threshold c.weigh_term-rest.result.lack
+    (c.weigh_term-rest.ensures.threshold ∙ ap (λ (o : Tone). c.loop-t.rest.threshold - cond (is_yes o) k.coefficient 0) c.see_part.ensures)
+    (c.weigh_term-rest.ensures.lack ∙ ap (λ (o : Tone). c.loop-t.rest.lack - cond (is_no o) 0 k.coefficient) c.see_part.ensures)
 
 pub returns : goal.returns
 returns c =

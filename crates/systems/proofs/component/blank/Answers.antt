@@ -8,7 +8,7 @@ loop-init c = ap (map vec_items) c.new-cells.ensures.items
 
 pub loop-preserved : goal.loop-preserved
 loop-preserved c =
-    ap (map vec_items) c.in-ok-push.ensures.items
+    ap (map vec_items) c.in_ok-push.ensures.items
     ∙ map_push vec_items (vec_items c.loop.cells) c.new.result
     ∙ ap₂ (λ (xs : List (List MoveRecord)) (x : List MoveRecord). xs ++ x ∷ []) c.loop.invariant c.new.ensures.items
     ∙ replicate_more c.loop.counter []

@@ -13,30 +13,30 @@ reached : (c : goal.After-cell-c) → Reached c.args.states c.args.rows.now c.lo
 reached c = record { bound = c.requires.bound; within = c.loop-i-test.true; counted = c.loop-i.invariant.1 }
 
 small : (c : goal.After-cell-c) → get_or c.loop-i.earlier c.cell-c.result 0 + 1 ≤ 64
-small c = count_small (reached c) c.args.targets.now c.cell-c.ensures c.in-default.ensures
+small c = count_small (reached c) c.args.targets.now c.cell-c.ensures c.in_default.ensures
 
 pub loop-i-init : goal.loop-i-init
 loop-i-init c = (refl, counted_none c.args.rows.now _ refl, refl)
 
-pub slice-bounds-fault-at-end : goal.slice-bounds-fault-at-end
-slice-bounds-fault-at-end c = sym c.loop-i.invariant.1.whole
+pub slice_bounds-fault_at-end : goal.slice_bounds-fault_at-end
+slice_bounds-fault_at-end c = sym c.loop-i.invariant.1.whole
 
 pub returns-in-Some : goal.returns-in-Some
 returns-in-Some c =
     fault-first c.args.states c.args.rows.now c.args.targets.now c.in-Some.f c.loop-i.i (length c.args.rows.now) c.loop-i-test.true c.loop-i.invariant.0 c.in-Some.ensures
 
-pub overflow-add-met : goal.overflow-add-met
-overflow-add-met c = omega (arith, small c)
+pub overflow_add-met : goal.overflow_add-met
+overflow_add-met c = omega (arith, small c)
 
-pub overflow-cast-met : goal.overflow-cast-met
-overflow-cast-met c = omega (arith, small (goal.at.overflow-cast-met c).After-cell-c)
+pub overflow_cast-met : goal.overflow_cast-met
+overflow_cast-met c = omega (arith, small (goal.at.overflow_cast-met c).After-cell-c)
 
 pub loop-i-preserved : goal.loop-i-preserved
 loop-i-preserved c =
     let r = reached (goal.at.loop-i-preserved c).After-cell-c in (
-      none_more c.args.states c.args.rows.now c.args.targets.now c.loop-i.i c.loop-i.invariant.0 c.in-default.ensures,
-      counted-right r c.args.targets.now c.cell-c.ensures c.in-default.ensures,
-      longest-right r c.args.targets.now c.cell-c.ensures c.in-default.ensures c.loop-i.invariant.2
+      none_more c.args.states c.args.rows.now c.args.targets.now c.loop-i.i c.loop-i.invariant.0 c.in_default.ensures,
+      counted-right r c.args.targets.now c.cell-c.ensures c.in_default.ensures,
+      longest-right r c.args.targets.now c.cell-c.ensures c.in_default.ensures c.loop-i.invariant.2
           (c.max-breadth.ensures ∙ ap (λ (x : ℕ). max x (get_or c.loop-i.earlier c.cell-c.result 0 + 1)) c.max.ensures),
     )
 

@@ -3,8 +3,8 @@ use Rattle.formulas.specs.Words.{ended}
 use Rattle.formulas.proofs.Scan.{go, close, close-mode, alone, last, last_within, no_more}
 use Rattle.formulas.proofs.words.Words.next_word.Goals as goal
 
-pub slice-bounds-result-count : goal.slice-bounds-result-count
-slice-bounds-result-count c = let b = close-mode _ _ _ _ c.loop-at.invariant.0 c.loop-at-test.true c.in-Close.start c.in-Close.ensures in omega arith
+pub slice_bounds-result-count : goal.slice_bounds-result-count
+slice_bounds-result-count c = let b = close-mode _ _ _ _ c.loop-at.invariant.0 c.loop-at-test.true c.in-Close.start c.in-Close.ensures in omega arith
 
 pub returns-in-Close : goal.returns-in-Close
 returns-in-Close c =

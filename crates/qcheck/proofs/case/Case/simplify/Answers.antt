@@ -18,6 +18,6 @@ returns c =
     let To : Stage → Type 0 = λ g. Step (stage_of before) (entry simplifying (is_err r)) g in
     subst To
     (back left.claim before.store.nodes before.store.terms before.store.alternatives left.nodes left.terms left.alternatives
-    (omega (arith, c.simplify.auto.nodes, c.as-mut-slice.ensures.len)) (omega (arith, c.simplify.auto.terms, c.as-mut-slice-2.ensures.len)) (omega (arith, c.simplify.auto.alternatives, c.as-mut-slice-3.ensures.len)))
-    (simplify c.as-mut-slice-4.result.now left.map (slots left.nodes left.terms left.alternatives) left.claim r
-    (subst₃ (λ ns ts alts. Simplifies before.claim (desk (slots ns ts alts) c.as-mut-slice-4.result.now) r left.claim after) c.as-mut-slice.ensures.value c.as-mut-slice-2.ensures.value c.as-mut-slice-3.ensures.value c.simplify.ensures.outcome))
+    (omega (arith, c.simplify.auto.nodes, c.as_mut_slice.ensures.len)) (omega (arith, c.simplify.auto.terms, c.as_mut_slice-2.ensures.len)) (omega (arith, c.simplify.auto.alternatives, c.as_mut_slice-3.ensures.len)))
+    (simplify c.as_mut_slice-4.result.now left.map (slots left.nodes left.terms left.alternatives) left.claim r
+    (subst₃ (λ ns ts alts. Simplifies before.claim (desk (slots ns ts alts) c.as_mut_slice-4.result.now) r left.claim after) c.as_mut_slice.ensures.value c.as_mut_slice-2.ensures.value c.as_mut_slice-3.ensures.value c.simplify.ensures.outcome))

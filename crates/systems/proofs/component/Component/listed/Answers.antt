@@ -9,7 +9,7 @@ returns c =
     let l : c.cell.result < length cells = omega (arith, c.cell.ensures, c.args.self.now.covered, c.if-state-self.false, c.if-action-ge32.false) in
     record {
       is =
-          c.as-slice.ensures.value
+          c.as_slice.ensures.value
           ∙ ap vec_items c.index.ensures
           ∙ sym (get_or-map vec_items cells c.cell.result c.index.result.now [] l)
           ∙ ap (λ (x : ℕ). get_or (map vec_items cells) x []) c.cell.ensures

@@ -11,36 +11,29 @@ grouped-requires c =
     let n = c.args.states in
     let rs = c.args.moves.now in
     let ts = c.args.targets.now in
-    all-inside n rs ts (right_tables n rs ts c.in-ok-breadth.ensures.0).records
+    all-inside n rs ts (right_tables n rs ts c.in_ok-breadth.ensures.0).records
 
-pub invariant-of-result : goal.invariant-of-result
-invariant-of-result c =
+pub invariant_of-result : goal.invariant_of-result
+invariant_of-result c =
     let n = c.args.states in
     let rs = c.args.moves.now in
     let ts = c.args.targets.now in
     let cells = map vec_items (vec_items c.in-Ok.cells) in
-    let t = right_tables n rs ts c.in-ok-breadth.ensures.0 in
-    let e = c.in-ok-breadth.ensures.1 in
-    let own = c.in-Ok-from-slice.ensures.made.0 in
+    let t = right_tables n rs ts c.in_ok-breadth.ensures.0 in
+    let e = c.in_ok-breadth.ensures.1 in
+    let own = c.in-Ok-from_slice.ensures.items in
     let g = c.in-Ok.ensures in
     let b1 = longest-low rs (length rs) in
-    let b2 = longest-high n rs ts t.records (length rs) (omega arith) in (
-      t.states,
-      (
-        (omega (arith, e, b1), omega (arith, e, b2)),
-        (
-          sym (length-map (vec_items c.in-Ok.cells) vec_items) ∙ g.size,
-          (
-            omega (arith, ap length own, t.short),
-            (
-              subst (λ (xs : List Target). good_index n c.in-ok-breadth.breadth cells xs ≡ true) (sym own)
-                  (subst (λ (b : ℕ). good_index n b cells ts ≡ true) (sym e) (index-good n rs ts cells t.records g)),
-              tt,
-            ),
-          ),
-        ),
-      ),
-    )
+    let b2 = longest-high n rs ts t.records (length rs) (omega arith) in
+    record {
+      counted = t.states;
+      broad = (omega (arith, e, b1), omega (arith, e, b2));
+      covered = sym (length-map (vec_items c.in-Ok.cells) vec_items) ∙ g.size;
+      short = omega (arith, ap length own, t.short);
+      good =
+          subst (λ (xs : List Target). good_index n c.in_ok-breadth.breadth cells xs ≡ true) (sym own)
+          (subst (λ (b : ℕ). good_index n b cells ts ≡ true) (sym e) (index-good n rs ts cells t.records g));
+    }
 
 pub returns : goal.returns
 returns c =
@@ -48,9 +41,9 @@ returns c =
     let rs = c.args.moves.now in
     let ts = c.args.targets.now in
     let cells = map vec_items (vec_items c.in-Ok.cells) in
-    let ok = c.in-ok-breadth.ensures.0 in (
+    let ok = c.in_ok-breadth.ensures.0 in (
       ok,
-      ap (index_meaning n c.in-ok-breadth.breadth cells) c.in-Ok-from-slice.ensures.made.0
-          ∙ ap (λ (b : ℕ). index_meaning n b cells ts) c.in-ok-breadth.ensures.1
+      ap (index_meaning n c.in_ok-breadth.breadth cells) c.in-Ok-from_slice.ensures.items
+          ∙ ap (λ (b : ℕ). index_meaning n b cells ts) c.in_ok-breadth.ensures.1
           ∙ same-meaning n rs ts cells (right_tables n rs ts ok).records c.in-Ok.ensures,
     )

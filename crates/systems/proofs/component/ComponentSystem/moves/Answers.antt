@@ -2,8 +2,8 @@ use Rattle.std.proofs.Common.{arith}
 use Rattle.systems.specs.Indexed.{few_rows, count-rows}
 use Rattle.systems.proofs.component.ComponentSystem.moves.Goals as goal
 
-pub overflow-cast-result : goal.overflow-cast-result
-overflow-cast-result c = omega (arith, c.args.self.now.broad.1, few_rows c.listed.ensures)
+pub overflow_cast-result : goal.overflow_cast-result
+overflow_cast-result c = omega (arith, c.args.self.now.broad.1, few_rows c.listed.ensures)
 
 pub returns : goal.returns
 returns c = count-rows c.listed.ensures

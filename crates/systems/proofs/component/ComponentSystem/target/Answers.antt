@@ -10,8 +10,8 @@ returns-then-mv-rows c = sym (ap (λ (xs : Move). slice_get xs c.args.index) (no
 pub returns-then-index-r : goal.returns-then-index-r
 returns-then-index-r c = no_target c.listed-rows.ensures c.args.mv c.if-mv-rows.false c.args.index c.if-index-r.true
 
-pub overflow-add-r : goal.overflow-add-r
-overflow-add-r c = omega (arith, (fit_row c.listed-rows.ensures c.args.mv c.if-mv-rows.false).placed, c.args.self.now.short)
+pub overflow_add-r : goal.overflow_add-r
+overflow_add-r c = omega (arith, (fit_row c.listed-rows.ensures c.args.mv c.if-mv-rows.false).placed, c.args.self.now.short)
 
 pub index-requires : goal.index-requires
 index-requires c = omega (arith, (fit_row c.listed-rows.ensures c.args.mv c.if-mv-rows.false).placed, c.args.self.now.targets.ok.0)

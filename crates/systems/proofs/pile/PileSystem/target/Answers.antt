@@ -4,8 +4,8 @@ use Rattle.systems.specs.Meaning.{Move}
 use Rattle.systems.proofs.PiledCode.{moves_outside, no_move, no_target, target-shared, target-upper, target-lower, room-shared, room-upper, room-lower}
 use Rattle.systems.proofs.pile.PileSystem.target.Goals as goal
 
-pub returns-in-default : goal.returns-in-default
-returns-in-default g c = sym (ap (λ (ms : List Move). slice_get (get_or ms c.args.mv []) c.args.index) (moves_outside c.in-default.ensures c.args.action))
+pub returns-in_default : goal.returns-in_default
+returns-in_default g c = sym (ap (λ (ms : List Move). slice_get (get_or ms c.args.mv []) c.args.index) (moves_outside c.in_default.ensures c.args.action))
 
 pub returns-then-low-eq0 : goal.returns-then-low-eq0
 returns-then-low-eq0 g c = sym (ap (λ (xs : Move). slice_get xs c.args.index) (no_move c.in-Some.ensures c.args.action c.args.mv c.if-contains.ensures c.moves-low.ensures c.if-low-eq0.true))

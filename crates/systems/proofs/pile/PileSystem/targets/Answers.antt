@@ -3,14 +3,14 @@ use Rattle.systems.specs.Meaning.{Move}
 use Rattle.systems.proofs.PiledCode.{moves_outside, no_move, targets-shared, targets-upper, targets-lower, short-shared}
 use Rattle.systems.proofs.pile.PileSystem.targets.Goals as goal
 
-pub returns-in-default : goal.returns-in-default
-returns-in-default g c = sym (ap (λ (ms : List Move). length (get_or ms c.args.mv [])) (moves_outside c.in-default.ensures c.args.action))
+pub returns-in_default : goal.returns-in_default
+returns-in_default g c = sym (ap (λ (ms : List Move). length (get_or ms c.args.mv [])) (moves_outside c.in_default.ensures c.args.action))
 
 pub returns-then-low-eq0 : goal.returns-then-low-eq0
 returns-then-low-eq0 g c = sym (ap length (no_move c.in-Some.ensures c.args.action c.args.mv c.if-contains.ensures c.moves-low.ensures c.if-low-eq0.true))
 
-pub overflow-mul-result : goal.overflow-mul-result
-overflow-mul-result g c = omega (arith, short-shared c.in-Some.ensures c.args.action (c.args.mv / c.moves-low.result) (c.args.mv % c.moves-low.result) c.targets.ensures c.targets-then-contains.ensures)
+pub overflow_mul-result : goal.overflow_mul-result
+overflow_mul-result g c = omega (arith, short-shared c.in-Some.ensures c.args.action (c.args.mv / c.moves-low.result) (c.args.mv % c.moves-low.result) c.targets.ensures c.targets-then-contains.ensures)
 
 pub returns-then-contains : goal.returns-then-contains
 returns-then-contains g c = targets-shared c.in-Some.ensures c.args.action c.args.mv c.if-contains.ensures c.moves-low.ensures c.if-low-eq0.false c.targets.ensures c.targets-then-contains.ensures
