@@ -1,6 +1,6 @@
 -- A search for one that passes a test, and tests that agree.
 use Rattle.std.proofs.Common.{◌≡◌, ℕ, ◌+◌, ◌<◌, ◌≤◌, Bool, true, false, ◌||◌, List, [], ◌∷◌, length, get_or, drop, sym, refl, ap, ◌∙◌, ap₂}
-use Rattle.std.specs.List.{AllByRecursion as All}
+use Rattle.std.specs.List.{AllByRecursion}
 use Rattle.std.proofs.lemmas.List.{at_drop_more, at_drop_all}
 use Rattle.systems.specs.Meaning.{Move}
 use Rattle.formulas.specs.Truths.{any}
@@ -20,6 +20,6 @@ module _ {X : Type 0} (p : X → Bool) (xs : List X) (i : ℕ) where
   pub any_none : any p xs ≡ any p (drop i xs) → length xs ≤ i → false ≡ any p xs
   any_none before h = sym (before ∙ at_drop_all (any p) xs i h)
 
-pub any_same : {X : Type 0} (Q : X → Type 0) (p q : X → Bool) → ((x : X) → Q x → p x ≡ q x) → (xs : List X) → All Q xs → any p xs ≡ any q xs
+pub any_same : {X : Type 0} (Q : X → Type 0) (p q : X → Bool) → ((x : X) → Q x → p x ≡ q x) → (xs : List X) → AllByRecursion Q xs → any p xs ≡ any q xs
 any_same Q p q e [] a = refl
 any_same Q p q e (x ∷ xs) a = ap₂ ◌||◌ (e x a.0) (any_same Q p q e xs a.1)

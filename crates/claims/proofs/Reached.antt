@@ -1,6 +1,6 @@
 -- The marks of a row become truths, and the row becomes clear again.
 use Rattle.std.proofs.Common.{◌≡◌, ℕ, ◌+◌, ◌-◌, ◌<◌, ◌≤◌, Bool, eqb, ◌≢◌, List, [], ◌∷◌, length, get_or, take, drop, set, sym, ap, ◌∙◌, subst, ⊎_elim, arith}
-use Rattle.std.specs.List.{AllByRecursion as All}
+use Rattle.std.specs.List.{AllByRecursion}
 use Rattle.std.proofs.lemmas.List.{get_or-set_same, get_or-set_other, ext_get_or}
 use Rattle.std.proofs.ByRecursion.{All-weaker}
 use Rattle.std.proofs.lemmas.Bool.{cases_lt, cases_eq, cases_Bool, eqb-true, eqb-false, cond-true, cond-false}
@@ -17,12 +17,12 @@ use Rattle.claims.proofs.Anys.{any_same}
 use Rattle.claims.proofs.Marks.{marked_all, marked_other}
 use Rattle.claims.proofs.Truthful.{byte-lit, row-byte-is, sits_parted}
 
-all_both : (P Q R : ℕ → Type 0) → ((p : ℕ) → P p → Q p → R p) → (ps : List ℕ) → All P ps → All Q ps → All R ps
+all_both : (P Q R : ℕ → Type 0) → ((p : ℕ) → P p → Q p → R p) → (ps : List ℕ) → AllByRecursion P ps → AllByRecursion Q ps → AllByRecursion R ps
 all_both P Q R f [] a b = tt
 all_both P Q R f (p ∷ ps) a b = (f p a.0 b.0, all_both P Q R f ps a.1 b.1)
 
 -- node j is passed on the way up
-module _ (M : Meaning) (t : Tables) (sits : Sits M t) (mv : Move) (within : All (λ u. u.state < M.states) mv) (table : List ℕ) (low j : ℕ) (old row : List ℕ) (f : Filling (truths_in M t) mv low j old row) where
+module _ (M : Meaning) (t : Tables) (sits : Sits M t) (mv : Move) (within : AllByRecursion (λ u. u.state < M.states) mv) (table : List ℕ) (low j : ℕ) (old row : List ℕ) (f : Filling (truths_in M t) mv low j old row) where
   fill-off : (get_or row j 0 ≡ 2 → ⊥) → Filling (truths_in M t) mv low (j + 1) old row
   fill-off ne = record {
     told = λ k l m. ⊎_elim (λ e. absurd (ne (f.above j (omega arith) ∙ subst (Mark old) e m))) (λ u. f.told k (omega arith) m) (cases_eq k j);
@@ -37,7 +37,7 @@ module _ (M : Meaning) (t : Tables) (sits : Sits M t) (mv : Move) (within : All 
     above = λ k l. get_or-set_other row j k v 0 (omega arith) ∙ f.above k (omega arith);
   }
 
-  pub fill_more : (high : ℕ) (row' : List ℕ) → ((k : ℕ) → k < high → Mark old k → All (Mark old) (parts (get_or t.nodes.now k no_node))) → Agrees M (truths_in M t) table j → low ≤ j → j < high → j < length t.nodes.now → j < length row → row' ≡ settled M t.nodes.now t.terms.now t.alternatives.now table mv j row → Filling (truths_in M t) mv low (j + 1) old row'
+  pub fill_more : (high : ℕ) (row' : List ℕ) → ((k : ℕ) → k < high → Mark old k → AllByRecursion (Mark old) (parts (get_or t.nodes.now k no_node))) → Agrees M (truths_in M t) table j → low ≤ j → j < high → j < length t.nodes.now → j < length row → row' ≡ settled M t.nodes.now t.terms.now t.alternatives.now table mv j row → Filling (truths_in M t) mv low (j + 1) old row'
   fill_more high row' closed agrees lo hi here h e =
       let Good : List ℕ → Type 0 = Filling (truths_in M t) mv low (j + 1) old in
       let v = row_byte M t.terms.now t.alternatives.now table row (get_or t.nodes.now j no_node) mv in
@@ -54,7 +54,7 @@ pub sliced : {X : Type 0} (xs : List X) (r : Run) → take (r.first + r.count - 
 sliced xs r = ap (λ k. take k (drop r.first xs)) (omega arith)
 
 -- from a clear row, the nodes wanted are marked, and then what they are made of
-module _ (ns : List Node) (wanted old first row : List ℕ) (upto start low high : ℕ) (clear : Clear upto old) (long : upto ≤ length old) (top : high ≤ upto) (ordered : start ≤ high) (around : All (λ d. (start ≤ d) × (d < high)) wanted) (e : first ≡ marked old wanted) (s : Spread ns low start low high first row) where
+module _ (ns : List Node) (wanted old first row : List ℕ) (upto start low high : ℕ) (clear : Clear upto old) (long : upto ≤ length old) (top : high ≤ upto) (ordered : start ≤ high) (around : AllByRecursion (λ d. (start ≤ d) × (d < high)) wanted) (e : first ≡ marked old wanted) (s : Spread ns low start low high first row) where
   apart : (k : ℕ) → ((d : ℕ) → start ≤ d → d < high → k ≢ d) → get_or first k 0 ≡ get_or old k 0
   apart k ne = ap (λ r. get_or r k 0) e ∙ marked_other wanted old k (All-weaker (λ d. (start ≤ d) × (d < high)) (λ d. k ≢ d) (λ d a. ne d a.0 a.1) wanted around)
 
@@ -67,7 +67,7 @@ module _ (ns : List Node) (wanted old first row : List ℕ) (upto start low high
   pub reached : Reached ns wanted upto low high old row
   reached =
       let inside = All-weaker (λ d. (start ≤ d) × (d < high)) (λ d. d < length old) (λ d a. omega (arith, a.1)) wanted around in
-      let named : All (Mark first) wanted = subst (λ r. All (Mark r) wanted) (sym e) (marked_all wanted old inside) in
+      let named : AllByRecursion (Mark first) wanted = subst (λ r. AllByRecursion (Mark r) wanted) (sym e) (marked_all wanted old inside) in
       record {
         ordered = omega (arith, s.lower);
         top = top;

@@ -2,7 +2,7 @@
 use Rattle.std.proofs.Common.{◌≡◌, ℕ, List, [], ◌∷◌, is_ok, Ok, Err, Result, sym, refl, ap, ◌∙◌, subst, ap₂}
 use mathlib.Core.Path.{fun_ext}
 use Rattle.formulas.specs.declared.refusal.Refusal.{Refusal}
-use Rattle.std.specs.List.{AllByRecursion as All}
+use Rattle.std.specs.List.{AllByRecursion}
 use Rattle.std.proofs.ByRecursion.{All-append, All-weaker}
 use Rattle.systems.specs.declared.actions.ActionSet.{ActionSet}
 use Rattle.systems.specs.Actions.{has}
@@ -48,7 +48,7 @@ module _
       record Faithful (k : Book) (h : Stage) : Type 0 where
         first : k.first ≡ formula_on g
         shared : h.claim.shared ≡ A
-        ruled : All Ruled k.removed
+        ruled : AllByRecursion Ruled k.removed
         stands : Stands k h
 
       step-faithful : {k : Book} {e : Entry} {h i : Stage} → Faithful k h → Step h e i → Faithful (fed k e) i

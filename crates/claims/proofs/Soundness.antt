@@ -1,6 +1,6 @@
 -- What is used of a sound system: few states, some mass but not too much, and moves and points that stay within the states and weigh no more than the mass.
 use Rattle.std.proofs.Common.{◌<◌, ◌≤◌, [], length, get_or, sum_by, sym, subst, ⊎_elim, arith}
-use Rattle.std.specs.List.{AllByRecursion as All}
+use Rattle.std.specs.List.{AllByRecursion}
 use Rattle.std.proofs.lemmas.List.{get_or_past}
 use Rattle.std.proofs.ByRecursion.{All-get_or, All-weaker}
 use Rattle.std.proofs.lemmas.Bool.{cases_lt}
@@ -24,7 +24,7 @@ module _ (M : Meaning) (sound : Sound M) where
 
 pub record Light (M : Meaning) (mv : Move) : Type 0 where
   pub whole : sum_by (λ t. t.weight) mv ≤ M.mass
-  pub within : All (λ t. t.state < M.states) mv
+  pub within : AllByRecursion (λ t. t.state < M.states) mv
 
 good-light : (M : Meaning) (mv : Move) → Good M.states M.mass M.breadth mv → Light M mv
 good-light M mv g = record {

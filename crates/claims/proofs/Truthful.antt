@@ -1,6 +1,6 @@
 -- What is computed from tables that hold truths is a truth.
 use Rattle.std.proofs.Common.{◌≡◌, ℕ, ◌+◌, ◌*◌, ◌<◌, ◌≤◌, Bool, true, false, cond, not, ◌&&◌, eqb, leb, List, [], ◌∷◌, length, get_or, sum_by, sym, refl, ap, ◌∙◌, ap₂, mul-le-mul_right, mul_assoc, add-mul, one-mul, arith}
-use Rattle.std.specs.List.{AllByRecursion as All}
+use Rattle.std.specs.List.{AllByRecursion}
 use Rattle.std.proofs.ByRecursion.{All-weaker}
 use Rattle.std.proofs.lemmas.List.Sums.{sum_by-cons}
 use Rattle.std.proofs.lemmas.Bool.{eq-eqb, ne_eqb}
@@ -25,14 +25,14 @@ pub byte-lit : (b : Bool) (x : ℕ) → x ≡ byte b → eqb x 1 ≡ b
 byte-lit true x e = eq-eqb x 1 e
 byte-lit false x e = ne_eqb x 1 (λ h. omega arith)
 
-weigh-same : (n : ℕ) (f g : ℕ → Bool) → ((s : ℕ) → s < n → f s ≡ g s) → (mv : Move) → All (λ u. u.state < n) mv → weigh f mv ≡ weigh g mv
+weigh-same : (n : ℕ) (f g : ℕ → Bool) → ((s : ℕ) → s < n → f s ≡ g s) → (mv : Move) → AllByRecursion (λ u. u.state < n) mv → weigh f mv ≡ weigh g mv
 weigh-same n f g e [] a = refl
 weigh-same n f g e (u ∷ mv) a =
     sum_by-cons (λ v. cond (f v.state) v.weight 0) u mv
     ∙ ap₂ (λ x y. cond x u.weight 0 + y) (e u.state a.0) (weigh-same n f g e mv a.1)
     ∙ sym (sum_by-cons (λ v. cond (g v.state) v.weight 0) u mv)
 
-total-same : (n j : ℕ) (f g : ℕ → ℕ → Bool) → ((i s : ℕ) → i < j → s < n → f i s ≡ g i s) → (mv : Move) → All (λ u. u.state < n) mv → (ks : List Term) → All (λ k. k.node < j) ks → total f ks mv ≡ total g ks mv
+total-same : (n j : ℕ) (f g : ℕ → ℕ → Bool) → ((i s : ℕ) → i < j → s < n → f i s ≡ g i s) → (mv : Move) → AllByRecursion (λ u. u.state < n) mv → (ks : List Term) → AllByRecursion (λ k. k.node < j) ks → total f ks mv ≡ total g ks mv
 total-same n j f g e mv a [] b = refl
 total-same n j f g e mv a (k ∷ ks) b =
     sum_by-cons (λ u. u.coefficient * weigh (f u.node) mv) k ks
@@ -43,7 +43,7 @@ module _ (M : Meaning) (t : Tables) (table : List ℕ) (j : ℕ) (agrees : Agree
   lit-same : (i s : ℕ) → i < j → s < M.states → lit table M.states i s ≡ at_node (truths_in M t) i s
   lit-same i s h l = byte-lit (at_node (truths_in M t) i s) _ (agrees i s h l)
 
-  of-same : (m : ℕ) (mv : Move) → All (λ u. u.state < M.states) mv → (row : List ℕ) (n : Node) → Right t.terms.now t.alternatives.now m j n → All (λ p. get_or row p 0 ≡ byte (of_node (truths_in M t) p mv)) (parts n) → holds_of M (lit table M.states) (λ d _. lit_row row d) (line t.terms.now t.alternatives.now n) mv ≡ holds_of M (at_node (truths_in M t)) (of_node (truths_in M t)) (line t.terms.now t.alternatives.now n) mv
+  of-same : (m : ℕ) (mv : Move) → AllByRecursion (λ u. u.state < M.states) mv → (row : List ℕ) (n : Node) → Right t.terms.now t.alternatives.now m j n → AllByRecursion (λ p. get_or row p 0 ≡ byte (of_node (truths_in M t) p mv)) (parts n) → holds_of M (lit table M.states) (λ d _. lit_row row d) (line t.terms.now t.alternatives.now n) mv ≡ holds_of M (at_node (truths_in M t)) (of_node (truths_in M t)) (line t.terms.now t.alternatives.now n) mv
   of-same m mv w row (State sn.TheVariants.Yes) r a = refl
   of-same m mv w row (State sn.TheVariants.No) r a = refl
   of-same m mv w row (State (sn.TheVariants.And i k)) r a = refl
@@ -69,7 +69,7 @@ module _ (M : Meaning) (t : Tables) (table : List ℕ) (j : ℕ) (agrees : Agree
 
   -- node j on a move, from its parts in the row; and in a state
   module _ (sits : Sits M t) (h : j < length t.nodes.now) where
-    pub row-byte-is : (mv : Move) → All (λ u. u.state < M.states) mv → (row : List ℕ) → All (λ p. get_or row p 0 ≡ byte (of_node (truths_in M t) p mv)) (parts (get_or t.nodes.now j no_node)) → row_byte M t.terms.now t.alternatives.now table row (get_or t.nodes.now j no_node) mv ≡ byte (of_node (truths_in M t) j mv)
+    pub row-byte-is : (mv : Move) → AllByRecursion (λ u. u.state < M.states) mv → (row : List ℕ) → AllByRecursion (λ p. get_or row p 0 ≡ byte (of_node (truths_in M t) p mv)) (parts (get_or t.nodes.now j no_node)) → row_byte M t.terms.now t.alternatives.now table row (get_or t.nodes.now j no_node) mv ≡ byte (of_node (truths_in M t) j mv)
     row-byte-is mv w row a =
         ap byte (of-same (most_removed M) mv w row (get_or t.nodes.now j no_node) (sits.right j no_node h) a ∙ sym (ap (λ u. u.of mv) (sits.solved j no_node h)))
 
@@ -77,7 +77,7 @@ module _ (M : Meaning) (t : Tables) (table : List ℕ) (j : ℕ) (agrees : Agree
     state-is s l = at_same (most_removed M) s l (get_or t.nodes.now j no_node) (sits.right j no_node h) ∙ sym (ap (λ u. u.at s) (sits.solved j no_node h))
 
 -- the parts of a node that is right come before it
-parts-before : (ts : List Term) (alts : List ℕ) (m i : ℕ) (n : Node) → Right ts alts m i n → All (λ p. p < i) (parts n)
+parts-before : (ts : List Term) (alts : List ℕ) (m i : ℕ) (n : Node) → Right ts alts m i n → AllByRecursion (λ p. p < i) (parts n)
 parts-before ts alts m i (State x) r = tt
 parts-before ts alts m i (Dist dn.TheVariants.Yes) r = tt
 parts-before ts alts m i (Dist dn.TheVariants.No) r = tt

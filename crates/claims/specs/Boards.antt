@@ -1,6 +1,6 @@
 -- Tables that hold a formula, with what is known of its truths on a system.
 use Rattle.std.specs.Prelude.{◌≡◌, ℕ, ◌+◌, ◌*◌, ◌/◌, ◌<◌, ◌≤◌, true, false, ◌||◌, ltb, List, ◌++◌, length, take, drop, nat_lt, slice_index, slice_index_or}
-use Rattle.std.specs.List.{AllByRecursion as All}
+use Rattle.std.specs.List.{AllByRecursion}
 use Rattle.systems.specs.Meaning.{Meaning}
 use Rattle.formulas.specs.declared.node.Node.{Node}
 use Rattle.formulas.specs.declared.node.Run.{Run}
@@ -45,7 +45,7 @@ pub record Board (M : Meaning) (t : Tables) (i : ℕ) (table : List ℕ) (len : 
 -- a run of alternatives that come before node i
 pub record Before (t : Tables) (i : ℕ) (r : Run) : Type 0 where
   pub within : r.first + r.count ≤ length t.alternatives.now
-  pub below : All (λ d. d < i) (entries t.alternatives.now r)
+  pub below : AllByRecursion (λ d. d < i) (entries t.alternatives.now r)
 
 -- the list with these in place of as many from the place p on
 abbrev pub pasted : ℕ → List ℕ → List ℕ → List ℕ

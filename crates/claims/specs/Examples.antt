@@ -1,6 +1,6 @@
 -- Worked examples: systems, formulas, and what the definitions say of them.
 use Rattle.std.specs.Prelude.{◌≡◌, ℕ, Bool, true, false, List, [], ◌∷◌}
-use Rattle.std.specs.List.{AllByRecursion as All}
+use Rattle.std.specs.List.{AllByRecursion}
 use Rattle.systems.specs.declared.records.MoveRecord.{MoveRecord}
 use Rattle.systems.specs.declared.system.Target.{Target}
 use Rattle.systems.specs.Actions.{has}
@@ -100,4 +100,4 @@ examples =
     ∷ []
 
 abbrev pub WorkedExamples : Type 0
-WorkedExamples = All Established examples
+WorkedExamples = AllByRecursion Established examples

@@ -1,6 +1,6 @@
 -- A row: for each node, whether it holds of one move or point, or a mark that this is wanted.
 use Rattle.std.specs.Prelude.{◌≡◌, ℕ, ◌<◌, ◌≤◌, min, Bool, cond, List, [], ◌∷◌, length, set, fold, ◌==◌, slice_index, slice_index_or, slice_set}
-use Rattle.std.specs.List.{AllByRecursion as All}
+use Rattle.std.specs.List.{AllByRecursion}
 use Rattle.systems.specs.Meaning.{Meaning, Move}
 use Rattle.formulas.specs.declared.node.Node.{Node}
 use Rattle.formulas.specs.declared.node.Node.TheVariants.{State, Dist}
@@ -43,13 +43,13 @@ abbrev pub no_node : Node
 no_node = State sn.TheVariants.Yes
 
 abbrev pub Parted : List Node → Type 0
-Parted ns = (k : ℕ) → k < length ns → All (λ p. p < k) (parts (slice_index_or ns k no_node))
+Parted ns = (k : ℕ) → k < length ns → AllByRecursion (λ p. p < k) (parts (slice_index_or ns k no_node))
 
 -- from the place j on, marked nodes have their parts marked; all new marks are from low to high
 pub record Spread (ns : List Node) (j start low high : ℕ) (old row : List ℕ) : Type 0 where
   pub lower : low ≤ start
   pub stays : (k : ℕ) → Mark old k → Mark row k
-  pub closed : (k : ℕ) → j ≤ k → k < high → Mark row k → All (Mark row) (parts (slice_index_or ns k no_node))
+  pub closed : (k : ℕ) → j ≤ k → k < high → Mark row k → AllByRecursion (Mark row) (parts (slice_index_or ns k no_node))
   pub below : (k : ℕ) → k < low → slice_index row k ≡ slice_index old k
   pub above : (k : ℕ) → high ≤ k → slice_index row k ≡ slice_index old k
 
@@ -57,8 +57,8 @@ pub record Spread (ns : List Node) (j start low high : ℕ) (old row : List ℕ)
 pub record Reached (ns : List Node) (wanted : List ℕ) (upto low high : ℕ) (old row : List ℕ) : Type 0 where
   pub ordered : low ≤ high
   pub top : high ≤ upto
-  pub named : All (λ d. (d < high) × Mark row d) wanted
-  pub closed : (k : ℕ) → k < high → Mark row k → All (Mark row) (parts (slice_index_or ns k no_node))
+  pub named : AllByRecursion (λ d. (d < high) × Mark row d) wanted
+  pub closed : (k : ℕ) → k < high → Mark row k → AllByRecursion (Mark row) (parts (slice_index_or ns k no_node))
   pub bare : (k : ℕ) → k < low → Mark row k → ⊥
   pub below : (k : ℕ) → k < low → slice_index row k ≡ slice_index old k
   pub above : (k : ℕ) → high ≤ k → slice_index row k ≡ slice_index old k

@@ -1,6 +1,6 @@
 -- Sums of a move by a truth table.
 use Rattle.std.specs.Prelude.{ℕ, ◌+◌, ◌*◌, ◌≤◌, Bool, cond, List, length, sum_by, ◌==◌, slice_index}
-use Rattle.std.specs.List.{AllByRecursion as All}
+use Rattle.std.specs.List.{AllByRecursion}
 use Rattle.systems.specs.Meaning.{Meaning}
 use Rattle.formulas.specs.declared.node.Run.{Run}
 use Rattle.formulas.specs.declared.node.Term.{Term}
@@ -16,7 +16,7 @@ abbrev pub RowAt : ℕ → ℕ → ℕ → Type 0
 RowAt n size i = i * n + n ≤ size
 
 abbrev pub RowsAt : ℕ → ℕ → List Term → Type 0
-RowsAt n size ks = All (λ k. RowAt n size k.node) ks
+RowsAt n size ks = AllByRecursion (λ k. RowAt n size k.node) ks
 
 abbrev pub coefficients : List Term → ℕ
 coefficients ks = sum_by (λ k. k.coefficient) ks

@@ -1,6 +1,6 @@
 // Whether an alternative holds of a move or point: a row gets the truths of the nodes that the alternatives reach.
 ghost use Rattle.std.specs.Prelude.{◌≡◌, ℕ, ◌<◌, ◌≤◌, List, length, slice_index_or};
-ghost use Rattle.std.specs.List.{AllByRecursion as All};
+ghost use Rattle.std.specs.List.{AllByRecursion};
 ghost use Rattle.formulas.specs.Lines.{entries, dist_line};
 ghost use Rattle.formulas.specs.Truths.{any, holds_of, of_node};
 ghost use Rattle.claims.specs.Spots.{spot_of, Placed};
@@ -26,10 +26,10 @@ pub(crate) struct Span {
 
 // Marks the nodes given, and says where they are.
 fn mark(wanted: &[u32], upto: usize, row: &mut [u8]) -> Span
-    requires before { All (λ d. d < upto) wanted.now }
+    requires before { AllByRecursion (λ d. d < upto) wanted.now }
     requires long { upto ≤ length row.old }
     ensures row { row.new ≡ marked row.old wanted.now }
-    ensures around { All (λ d. (result.low ≤ d) × (d < result.high)) wanted.now }
+    ensures around { AllByRecursion (λ d. (result.low ≤ d) × (d < result.high)) wanted.now }
     ensures ordered { result.low ≤ result.high }
     ensures top { result.high ≤ upto }
 {
@@ -49,7 +49,7 @@ fn mark(wanted: &[u32], upto: usize, row: &mut [u8]) -> Span
 
 // Marks the parts of a node, and says where the lowest mark is then.
 fn mark_parts(node: Node, low: usize, row: &mut [u8]) -> usize
-    requires { All (λ p. p < length row.old) (parts node) }
+    requires { AllByRecursion (λ p. p < length row.old) (parts node) }
     ensures row { row.new ≡ marked row.old (parts node) }
     ensures low { result ≡ lowest low (parts node) }
 {
@@ -60,7 +60,7 @@ fn mark_parts(node: Node, low: usize, row: &mut [u8]) -> usize
 }
 
 fn mark_dist_parts(node: DistNode, low: usize, row: &mut [u8]) -> usize
-    requires { All (λ p. p < length row.old) (dist_parts node) }
+    requires { AllByRecursion (λ p. p < length row.old) (dist_parts node) }
     ensures row { row.new ≡ marked row.old (dist_parts node) }
     ensures low { result ≡ lowest low (dist_parts node) }
 {
@@ -104,7 +104,7 @@ fn spread(nodes: &[Node], span: Span, row: &mut [u8]) -> usize
 // Marks the nodes given and all that they are made of, in a clear row, and says where the marks are.
 fn reach(nodes: &[Node], wanted: &[u32], upto: usize, row: &mut [u8]) -> Span
     requires parted { Parted nodes.now }
-    requires before { All (λ d. d < upto) wanted.now }
+    requires before { AllByRecursion (λ d. d < upto) wanted.now }
     requires nodes { upto ≤ length nodes.now }
     requires long { upto ≤ length row.old }
     requires clear { Clear upto row.old }
@@ -189,7 +189,7 @@ fn fill<S: System>(system: &S, spot: Spot, tables: Tables, truth: &[u8], span: S
     requires placed { Placed (S.meaning system.now) spot }
     requires board { Board (S.meaning system.now) tables span.high truth.now (length row.old) }
     requires bare { (k : ℕ) → k < span.low → Mark row.old k → ⊥ }
-    requires closed { (k : ℕ) → k < span.high → Mark row.old k → All (Mark row.old) (parts (slice_index_or tables.nodes.now k no_node)) }
+    requires closed { (k : ℕ) → k < span.high → Mark row.old k → AllByRecursion (Mark row.old) (parts (slice_index_or tables.nodes.now k no_node)) }
     ensures { Filling (truths_in (S.meaning system.now) tables.entry) (spot_of (S.meaning system.now) spot) span.low span.high row.old row.new }
 {
     for j in span.low..span.high {
@@ -199,7 +199,7 @@ fn fill<S: System>(system: &S, spot: Spot, tables: Tables, truth: &[u8], span: S
 
 // Whether some byte is 1.
 fn some_lit(row: &[u8], wanted: &[u32]) -> bool
-    requires { All (λ d. d < length row.now) wanted.now }
+    requires { AllByRecursion (λ d. d < length row.now) wanted.now }
     ensures { result ≡ any (lit_row row.now) wanted.now }
 {
     for d in wanted {

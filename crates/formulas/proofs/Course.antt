@@ -2,7 +2,7 @@
 use Rattle.std.proofs.Common.{◌≡◌, ℕ, zero, suc, ◌+◌, ◌*◌, ◌<◌, ◌≤◌, Bool, true, cond, not, ◌&&◌, ◌||◌, leb, List, [], ◌∷◌, ◌++◌, length, get_or, take, drop, fold, sym, refl, ap, ◌∙◌, ap₂, le_of_suc-le-suc, not-suc-le-zero, arith}
 use Rattle.std.proofs.lemmas.List.{length_push, get_or_append_left, get_or_push, take-append-drop, length-take-le}
 use Rattle.std.proofs.lemmas.List.Sums.{fold_more, fold_push, sum_by-cons}
-use Rattle.std.specs.List.{AllByRecursion as All}
+use Rattle.std.specs.List.{AllByRecursion}
 use Rattle.systems.specs.Meaning.{Meaning, Move, point}
 use Rattle.formulas.specs.declared.node.Term.{Term}
 use Rattle.formulas.specs.Lines.{state, is_state, is_dist, Line, constant, both, non, step, sum}
@@ -19,26 +19,26 @@ unfolding truths
 truths_more S ls i d h = fold_more (next_truth S) [] ls i d h
 
 -- what looks only at states of P
-pub weigh-same : (P : ℕ → Type 0) (f g : ℕ → Bool) → ((s : ℕ) → P s → f s ≡ g s) → (mv : Move) → All (λ t. P t.state) mv → weigh f mv ≡ weigh g mv
+pub weigh-same : (P : ℕ → Type 0) (f g : ℕ → Bool) → ((s : ℕ) → P s → f s ≡ g s) → (mv : Move) → AllByRecursion (λ t. P t.state) mv → weigh f mv ≡ weigh g mv
 weigh-same P f g e [] a = refl
 weigh-same P f g e (t ∷ mv) a =
     sum_by-cons (λ u. cond (f u.state) u.weight 0) t mv
     ∙ ap₂ (λ x y. cond x t.weight 0 + y) (e t.state a.0) (weigh-same P f g e mv a.1)
     ∙ sym (sum_by-cons (λ u. cond (g u.state) u.weight 0) t mv)
 
-pub total-same : (P : ℕ → Type 0) (i : ℕ) (f g : ℕ → ℕ → Bool) → ((j s : ℕ) → j < i → P s → f j s ≡ g j s) → (mv : Move) → All (λ t. P t.state) mv → (ts : List Term) → All (λ t. t.node < i) ts → total f ts mv ≡ total g ts mv
+pub total-same : (P : ℕ → Type 0) (i : ℕ) (f g : ℕ → ℕ → Bool) → ((j s : ℕ) → j < i → P s → f j s ≡ g j s) → (mv : Move) → AllByRecursion (λ t. P t.state) mv → (ts : List Term) → AllByRecursion (λ t. t.node < i) ts → total f ts mv ≡ total g ts mv
 total-same P i f g e mv a [] b = refl
 total-same P i f g e mv a (t ∷ ts) b =
     sum_by-cons (λ u. u.coefficient * weigh (f u.node) mv) t ts
     ∙ ap₂ (λ x y. t.coefficient * x + y) (weigh-same P (f t.node) (g t.node) (λ s p. e t.node s b.0 p) mv a) (total-same P i f g e mv a ts b.1)
     ∙ sym (sum_by-cons (λ u. u.coefficient * weigh (g u.node) mv) t ts)
 
-pub any_same : {X : Type 0} (Q : X → Type 0) (f g : X → Bool) → ((x : X) → Q x → f x ≡ g x) → (xs : List X) → All Q xs → any f xs ≡ any g xs
+pub any_same : {X : Type 0} (Q : X → Type 0) (f g : X → Bool) → ((x : X) → Q x → f x ≡ g x) → (xs : List X) → AllByRecursion Q xs → any f xs ≡ any g xs
 any_same Q f g e [] a = refl
 any_same Q f g e (x ∷ xs) a = ap₂ ◌||◌ (e x a.0) (any_same Q f g e xs a.1)
 
 -- of a move into states of P, a line looks only at the lines before it
-pub of-same : (P : ℕ → Type 0) (S : Meaning) (i : ℕ) (f g : ℕ → ℕ → Bool) (p q : ℕ → Move → Bool) (mv : Move) → ((j s : ℕ) → j < i → P s → f j s ≡ g j s) → ((j : ℕ) → j < i → p j mv ≡ q j mv) → All (λ t. P t.state) mv → (l : Line) → Below i l → holds_of S f p l mv ≡ holds_of S g q l mv
+pub of-same : (P : ℕ → Type 0) (S : Meaning) (i : ℕ) (f g : ℕ → ℕ → Bool) (p q : ℕ → Move → Bool) (mv : Move) → ((j s : ℕ) → j < i → P s → f j s ≡ g j s) → ((j : ℕ) → j < i → p j mv ≡ q j mv) → AllByRecursion (λ t. P t.state) mv → (l : Line) → Below i l → holds_of S f p l mv ≡ holds_of S g q l mv
 of-same P S i f g p q mv e h a (constant σ c) b = refl
 of-same P S i f g p q mv e h a (both σ j k) b = ap₂ (λ x y. is_dist σ && (x && y)) (h j b.0) (h k b.1)
 of-same P S i f g p q mv e h a (non σ j) b = ap (λ x. is_dist σ && not x) (h j b)
@@ -46,7 +46,7 @@ of-same P S i f g p q mv e h a (step x ms hs) b = refl
 of-same P S i f g p q mv e h a (sum least ts) b = ap (leb (least * S.mass)) (total-same P i f g e mv a ts b)
 
 -- so does it in a state of P whose moves and point are of V
-pub at_same : (P : ℕ → Type 0) (V : Move → Type 0) (S : Meaning) (i : ℕ) (f g : ℕ → ℕ → Bool) (p q : ℕ → Move → Bool) (s : ℕ) → P s → V (point S s) → ((a : ℕ) → All V (S.moves s a)) → ((j s : ℕ) → j < i → P s → f j s ≡ g j s) → ((j : ℕ) (mv : Move) → j < i → V mv → p j mv ≡ q j mv) → (l : Line) → Below i l → holds_at S f p l s ≡ holds_at S g q l s
+pub at_same : (P : ℕ → Type 0) (V : Move → Type 0) (S : Meaning) (i : ℕ) (f g : ℕ → ℕ → Bool) (p q : ℕ → Move → Bool) (s : ℕ) → P s → V (point S s) → ((a : ℕ) → AllByRecursion V (S.moves s a)) → ((j s : ℕ) → j < i → P s → f j s ≡ g j s) → ((j : ℕ) (mv : Move) → j < i → V mv → p j mv ≡ q j mv) → (l : Line) → Below i l → holds_at S f p l s ≡ holds_at S g q l s
 at_same P V S i f g p q s ps vp va e h (constant σ c) b = refl
 at_same P V S i f g p q s ps vp va e h (both σ j k) b = ap₂ (λ x y. is_state σ && (x && y)) (e j s b.0 ps) (e k s b.1 ps)
 at_same P V S i f g p q s ps vp va e h (non σ j) b = ap (λ x. is_state σ && not x) (e j s b ps)
@@ -92,7 +92,7 @@ module _ (S : Meaning) where
       let long : j < length (fold (next_truth S) [] (take i ls)) = omega (arith, length_from [] (take i ls), length-take-le i ls l) in
       whole ∙ ap (λ T. get_or T j never) (folded_append (next_truth S) [] (take i ls) (drop i ls)) ∙ kept_from (fold (next_truth S) [] (take i ls)) (drop i ls) j long
 
-pub all_unit : {X : Type 0} (xs : List X) → All (λ _. Unit {0}) xs
+pub all_unit : {X : Type 0} (xs : List X) → AllByRecursion (λ _. Unit {0}) xs
 all_unit [] = tt
 all_unit (x ∷ xs) = (tt, all_unit xs)
 

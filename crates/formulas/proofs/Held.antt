@@ -1,6 +1,6 @@
 -- Tables that hold a formula: it is well-formed, and its sums keep to their bounds.
 use Rattle.std.proofs.Common.{◌≡◌, ℕ, zero, suc, ◌+◌, ◌-◌, ◌*◌, ◌<◌, ◌≤◌, true, false, ◌&&◌, eqb, ltb, leb, ◌⊎◌, List, [], ◌∷◌, ◌++◌, length, get_or, take, drop, sum_by, sym, refl, ap, ◌∙◌, subst, inl, inr, le_of_suc-le-suc, not-suc-le-zero, arith, take-add}
-use Rattle.std.specs.List.{AllByRecursion as All}
+use Rattle.std.specs.List.{AllByRecursion}
 use Rattle.std.proofs.lemmas.List.{get_or-map, get_or_past, length-map, drop-drop}
 use Rattle.std.proofs.ByRecursion.{All-from_get_or}
 use Rattle.std.proofs.lemmas.List.Sums.{sum_by-cons}
@@ -16,7 +16,7 @@ use Rattle.formulas.specs.Stands.{state_sort, no_dist, no_state, is_state_node, 
 use Rattle.formulas.specs.Laws.{HeldLaw}
 use Rattle.formulas.specs.WellFormed.{line_at, Part, Fits, Bounded}
 
-all_apart : {X : Type 0} (P : X → Type 0) (xs ys : List X) → All P (xs ++ ys) → All P xs × All P ys
+all_apart : {X : Type 0} (P : X → Type 0) (xs ys : List X) → AllByRecursion P (xs ++ ys) → AllByRecursion P xs × AllByRecursion P ys
 all_apart P [] ys h = (tt, h)
 all_apart P (x ∷ xs) ys h = let r = all_apart P xs ys h.1 in ((h.0, r.0), r.1)
 
@@ -68,12 +68,12 @@ module _ (ns : List Node) (ts : List Term) (alts : List ℕ) where
         let l = ltb-true j i p.0 in
         record { before = l; sorted = ap sort (line_of j no_state (omega arith)) ∙ dist-sort (get_or ns j no_state) (not-true (state_sort (get_or ns j no_state)) p.1) }
 
-    dist_parts : (ds : List ℕ) → all_dist ns i ds ≡ true → All (Part (lines ns ts alts) i dist) ds
+    dist_parts : (ds : List ℕ) → all_dist ns i ds ≡ true → AllByRecursion (Part (lines ns ts alts) i dist) ds
     dist_parts [] e = tt
     dist_parts (d ∷ ds) e = let p = and_parts (below_dist ns i d) (all_dist ns i ds) e in (dist-part d p.0, dist_parts ds p.1)
 
     terms-right : (left : ℕ) (ks : List Term) → terms_ok ns i left ks ≡ true
-        → All (λ k. Part (lines ns ts alts) i state k.node) ks × All (λ k. 1 ≤ k.coefficient) ks × (sum_by (λ k. k.coefficient) ks ≤ left)
+        → AllByRecursion (λ k. Part (lines ns ts alts) i state k.node) ks × AllByRecursion (λ k. 1 ≤ k.coefficient) ks × (sum_by (λ k. k.coefficient) ks ≤ left)
     terms-right left [] e = (tt, tt, omega arith)
     terms-right left (k ∷ ks) e =
         let p = and_parts (term_ok ns i left k) (terms_ok ns i (left - k.coefficient) ks) e in
@@ -90,7 +90,7 @@ module _ (ns : List Node) (ts : List Term) (alts : List ℕ) where
     step_right a act mv g low e =
         let p = and_parts (run_ok (length alts) a mv) (run_ok (length alts) (a + mv.count) g && all_dist ns i (part alts a (mv.count + g.count))) e in
         let q = and_parts (run_ok (length alts) (a + mv.count) g) (all_dist ns i (part alts a (mv.count + g.count))) p.1 in
-        let Dists : List ℕ → Type 0 = All (Part (lines ns ts alts) i dist) in
+        let Dists : List ℕ → Type 0 = AllByRecursion (Part (lines ns ts alts) i dist) in
         let both = all_apart (Part (lines ns ts alts) i dist) (part alts a mv.count) (part alts (a + mv.count) g.count) (subst Dists (part_add alts a mv.count g.count) (dist_parts (part alts a (mv.count + g.count)) q.1)) in
         let low' = leb-true act 31 low in
         (((omega arith), subst (λ f. Dists (part alts f mv.count)) (run-first _ a mv p.0) both.0, subst (λ f. Dists (part alts f g.count)) (run-first _ (a + mv.count) g q.0) both.1), tt)

@@ -1,6 +1,6 @@
 -- The tables of a well-formed formula whose sums keep to their bounds hold it.
 use Rattle.std.proofs.Common.{◌≡◌, ℕ, zero, suc, ◌+◌, ◌-◌, ◌*◌, ◌<◌, ◌≤◌, true, false, not, ◌&&◌, eqb, ltb, leb, List, [], ◌∷◌, ◌++◌, length, get_or, take, drop, sum_by, sym, refl, ap, ◌∙◌, subst, ap₂, le_of_suc-le-suc, not-suc-le-zero, add-zero, arith}
-use Rattle.std.specs.List.{AllByRecursion as All}
+use Rattle.std.specs.List.{AllByRecursion}
 use Rattle.std.proofs.lemmas.List.{length-append, drop-drop, take_at, drop_at}
 use Rattle.std.proofs.ByRecursion.{All-append}
 use Rattle.std.proofs.lemmas.List.Sums.{sum_by-cons}
@@ -69,11 +69,11 @@ module _ (ls : List Line) where
         let l = part.before in
         and_from (ltb j i) (is_dist_node ns j) (lt-ltb j i l) (ap not (table-sort 0 0 ls j no_state (omega arith) ∙ ap is_state part.sorted))
 
-    dists-below : (ds : List ℕ) → All (Part ls i dist) ds → all_dist ns i ds ≡ true
+    dists-below : (ds : List ℕ) → AllByRecursion (Part ls i dist) ds → all_dist ns i ds ≡ true
     dists-below [] ps = refl
     dists-below (d ∷ ds) ps = and_from (below_dist ns i d) (all_dist ns i ds) (dist-below d ps.0) (dists-below ds ps.1)
 
-    terms-stand : (left : ℕ) (ks : List Term) → All (λ k. Part ls i state k.node) ks → All (λ k. 1 ≤ k.coefficient) ks → sum_by (λ k. k.coefficient) ks ≤ left → terms_ok ns i left ks ≡ true
+    terms-stand : (left : ℕ) (ks : List Term) → AllByRecursion (λ k. Part ls i state k.node) ks → AllByRecursion (λ k. 1 ≤ k.coefficient) ks → sum_by (λ k. k.coefficient) ks ≤ left → terms_ok ns i left ks ≡ true
     terms-stand left [] ps cs l = refl
     terms-stand left (k ∷ ks) ps cs l =
         let e = sum_by-cons (λ u. u.coefficient) k ks in
@@ -107,7 +107,7 @@ module _ (ls : List Line) where
 
   module _ (ts : List Term) (alts : List ℕ) (m : ℕ) where
     walk-stands : (i t a : ℕ) (rest : List Line) → Onward ts t (term_table rest) → Onward alts a (alternative_table rest) → i + length rest ≤ length ls
-        → ((n k : ℕ) → n ≡ i + k → k < length rest → Fits ls n (line_at rest k)) → All (Bounded m) rest → walk ns ts alts m i t a (node_table t a rest) ≡ true
+        → ((n k : ℕ) → n ≡ i + k → k < length rest → Fits ls n (line_at rest k)) → AllByRecursion (Bounded m) rest → walk ns ts alts m i t a (node_table t a rest) ≡ true
     walk-stands i t a [] ot oa l f b =
         and_from (eqb t (length ts)) (eqb a (length alts)) (eq-eqb t (length ts) (sym (add-zero t) ∙ ot.size)) (eq-eqb a (length alts) (sym (add-zero a) ∙ oa.size))
     walk-stands i t a (x ∷ rest) ot oa l f b =

@@ -3,7 +3,7 @@ use Rattle.std.proofs.Common.{◌≡◌, ℕ, zero, suc, ◌+◌, ◌-◌, ◌*�
 use Rattle.std.proofs.lemmas.List.{get_or-map, length-map}
 use Rattle.std.proofs.lemmas.List.Sums.{sum_by-cons}
 use Rattle.std.proofs.lemmas.Bool.{and_parts, leb-true, ltb-true}
-use Rattle.std.specs.List.{AllByRecursion as All}
+use Rattle.std.specs.List.{AllByRecursion}
 use Rattle.formulas.specs.declared.node.Node.{Node}
 use Rattle.formulas.specs.declared.node.Node.TheVariants.{State, Dist}
 use Rattle.formulas.specs.declared.node.StateNode as sn
@@ -15,7 +15,7 @@ use Rattle.formulas.specs.Lines.{state, constant, part, line, lines}
 use Rattle.formulas.proofs.Fits.{StepFit, SumFit, step_of, sum_of, part_add}
 use Rattle.formulas.specs.Right.{Below, Formed, Right, RightStep, RightSum, AllRight}
 
-all_apart : {X : Type 0} (P : X → Type 0) (xs ys : List X) → All P (xs ++ ys) → All P xs × All P ys
+all_apart : {X : Type 0} (P : X → Type 0) (xs ys : List X) → AllByRecursion P (xs ++ ys) → AllByRecursion P xs × AllByRecursion P ys
 all_apart P [] ys h = (tt, h)
 all_apart P (x ∷ xs) ys h = let r = all_apart P xs ys h.1 in ((h.0, r.0), r.1)
 
@@ -26,11 +26,11 @@ module _ (ns : List Node) (i : ℕ) where
   dist-below : (j : ℕ) → below_dist ns i j ≡ true → j < i
   dist-below j h = ltb-true j i (and_parts (ltb j i) (is_dist_node ns j) h).0
 
-  all-below : (ds : List ℕ) → all_dist ns i ds ≡ true → All (λ d. d < i) ds
+  all-below : (ds : List ℕ) → all_dist ns i ds ≡ true → AllByRecursion (λ d. d < i) ds
   all-below [] h = tt
   all-below (d ∷ ds) h = let p = and_parts (below_dist ns i d) (all_dist ns i ds) h in (dist-below d p.0, all-below ds p.1)
 
-  terms-below : (left : ℕ) (ts : List Term) → terms_ok ns i left ts ≡ true → All (λ t. t.node < i) ts × (sum_by (λ t. t.coefficient) ts ≤ left)
+  terms-below : (left : ℕ) (ts : List Term) → terms_ok ns i left ts ≡ true → AllByRecursion (λ t. t.node < i) ts × (sum_by (λ t. t.coefficient) ts ≤ left)
   terms-below left [] h = (tt, omega arith)
   terms-below left (t ∷ ts) h =
       let p = and_parts (term_ok ns i left t) (terms_ok ns i (left - t.coefficient) ts) h in
@@ -43,7 +43,7 @@ module _ (ns : List Node) (i : ℕ) where
 module _ (ns : List Node) (ts : List Term) (alts : List ℕ) (m i : ℕ) where
   step_right : (a : ℕ) (mv h : Run) → StepFit ns alts i a mv h → RightStep alts i mv h
   step_right a mv h fit =
-      let Low : List ℕ → Type 0 = All (λ d. d < i) in
+      let Low : List ℕ → Type 0 = AllByRecursion (λ d. d < i) in
       let all = all_apart (λ d. d < i) (part alts a mv.count) (part alts (a + mv.count) h.count) (subst Low (part_add alts a mv.count h.count) (all-below ns i (part alts a (mv.count + h.count)) fit.parts)) in
       let e = fit.moves.first in
       let g = fit.heres.first in
@@ -60,7 +60,7 @@ module _ (ns : List Node) (ts : List Term) (alts : List ℕ) (m i : ℕ) where
       let e = fit.terms.first in
       let end = fit.terms.within in
       let all = terms-below ns i (1000 * m) (part ts t r.count) fit.parts in
-      let Low : ℕ → Type 0 = λ f. All (λ t. t.node < i) (part ts f r.count) in
+      let Low : ℕ → Type 0 = λ f. AllByRecursion (λ t. t.node < i) (part ts f r.count) in
       let Light : ℕ → Type 0 = λ f. sum_by (λ t. t.coefficient) (part ts f r.count) ≤ 1000 * m in
       record {
         within = omega arith;

@@ -1,6 +1,6 @@
 -- The laws of truth, of satisfaction and of layout.
 use Rattle.std.specs.Prelude.{◌≡◌, ℕ, ◌<◌, true, List, length, slice_index_or}
-use Rattle.std.specs.List.{AllByRecursion as All}
+use Rattle.std.specs.List.{AllByRecursion}
 use Rattle.systems.specs.Meaning.{Meaning, Move}
 use Rattle.formulas.specs.declared.node.Node.{Node}
 use Rattle.formulas.specs.declared.node.Term.{Term}
@@ -67,12 +67,12 @@ abbrev pub HeldLaw : Type 0
 HeldLaw =
     (ns : List Node) (ts : List Term) (alts : List ℕ) (root m : ℕ) →
     stands ns ts alts root m ≡ true →
-    WellFormed (record { lines = lines ns ts alts; root = root }) × All (Bounded m) (lines ns ts alts)
+    WellFormed (record { lines = lines ns ts alts; root = root }) × AllByRecursion (Bounded m) (lines ns ts alts)
 
 -- and the tables of such a formula hold it
 abbrev pub LaidLaw : Type 0
 LaidLaw =
     (F : Formula) (m : ℕ) →
     WellFormed F →
-    All (Bounded m) F.lines →
+    AllByRecursion (Bounded m) F.lines →
     stands (node_table 0 0 F.lines) (term_table F.lines) (alternative_table F.lines) F.root m ≡ true

@@ -1,6 +1,6 @@
 -- What is right with each node of a table that holds a formula.
 use Rattle.std.specs.Prelude.{ℕ, ◌+◌, ◌*◌, ◌<◌, ◌≤◌, true, List, length, sum_by, slice_index_or}
-use Rattle.std.specs.List.{AllByRecursion as All}
+use Rattle.std.specs.List.{AllByRecursion}
 use Rattle.formulas.specs.declared.node.Node.{Node}
 use Rattle.formulas.specs.declared.node.Node.TheVariants.{State, Dist}
 use Rattle.formulas.specs.declared.node.StateNode.{StateNode}
@@ -16,8 +16,8 @@ abbrev pub Below : ℕ → Line → Type 0
 Below i (constant σ b) = Unit {0}
 Below i (both σ j k) = (j < i) × (k < i)
 Below i (non σ j) = j < i
-Below i (step a ms hs) = All (λ d. d < i) ms × All (λ d. d < i) hs
-Below i (sum t ks) = All (λ k. k.node < i) ks
+Below i (step a ms hs) = AllByRecursion (λ d. d < i) ms × AllByRecursion (λ d. d < i) hs
+Below i (sum t ks) = AllByRecursion (λ k. k.node < i) ks
 
 abbrev pub Formed : List Line → Type 0
 Formed ls = (i : ℕ) → i < length ls → Below i (slice_index_or ls i (constant state true))
@@ -25,13 +25,13 @@ Formed ls = (i : ℕ) → i < length ls → Below i (slice_index_or ls i (consta
 pub record RightStep (alts : List ℕ) (i : ℕ) (mv h : Run) : Type 0 where
   pub moves_within : mv.first + mv.count ≤ length alts
   pub here_within : h.first + h.count ≤ length alts
-  pub moves_below : All (λ d. d < i) (part alts mv.first mv.count)
-  pub here_below : All (λ d. d < i) (part alts h.first h.count)
+  pub moves_below : AllByRecursion (λ d. d < i) (part alts mv.first mv.count)
+  pub here_below : AllByRecursion (λ d. d < i) (part alts h.first h.count)
 
 pub record RightSum (ts : List Term) (m i least : ℕ) (r : Run) : Type 0 where
   pub within : r.first + r.count ≤ length ts
   pub low : least ≤ 1000 * m
-  pub below : All (λ t. t.node < i) (part ts r.first r.count)
+  pub below : AllByRecursion (λ t. t.node < i) (part ts r.first r.count)
   pub light : sum_by (λ t. t.coefficient) (part ts r.first r.count) ≤ 1000 * m
 
 abbrev pub RightState : List ℕ → ℕ → StateNode → Type 0

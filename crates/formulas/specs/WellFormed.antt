@@ -1,6 +1,6 @@
 -- Formulas whose parts are in order, and the bounds of their sums.
 use Rattle.std.specs.Prelude.{◌≡◌, ℕ, ◌*◌, ◌<◌, ◌≤◌, true, List, length, sum_by, slice_index_or}
-use Rattle.std.specs.List.{AllByRecursion as All}
+use Rattle.std.specs.List.{AllByRecursion}
 use Rattle.formulas.specs.Lines.{Sort, state, dist, Line, constant, both, non, step, sum, sort, Formula}
 
 -- line i; what stands past the end does not matter
@@ -17,8 +17,8 @@ abbrev pub Fits : List Line → ℕ → Line → Type 0
 Fits ls i (constant σ b) = Unit {0}
 Fits ls i (both σ j k) = Part ls i σ j × Part ls i σ k
 Fits ls i (non σ j) = Part ls i σ j
-Fits ls i (step a ms hs) = (a < 32) × All (Part ls i dist) ms × All (Part ls i dist) hs
-Fits ls i (sum t ks) = All (λ k. Part ls i state k.node) ks
+Fits ls i (step a ms hs) = (a < 32) × AllByRecursion (Part ls i dist) ms × AllByRecursion (Part ls i dist) hs
+Fits ls i (sum t ks) = AllByRecursion (λ k. Part ls i state k.node) ks
 
 -- every line fits
 abbrev pub Fitting : List Line → Type 0
@@ -35,4 +35,4 @@ Bounded m (constant σ b) = Unit {0}
 Bounded m (both σ i j) = Unit {0}
 Bounded m (non σ i) = Unit {0}
 Bounded m (step a ms hs) = Unit {0}
-Bounded m (sum t ks) = All (λ k. 1 ≤ k.coefficient) ks × (sum_by (λ k. k.coefficient) ks ≤ 1000 * m) × (t ≤ 1000 * m)
+Bounded m (sum t ks) = AllByRecursion (λ k. 1 ≤ k.coefficient) ks × (sum_by (λ k. k.coefficient) ks ≤ 1000 * m) × (t ≤ 1000 * m)

@@ -1,7 +1,7 @@
 -- Sums of a quotient keep to their bounds.
 use Rattle.std.proofs.Common.{◌≡◌, ℕ, ◌*◌, ◌<◌, ◌≤◌, Bool, true, false, List, [], ◌∷◌, length, sum_by, sym, ap, ◌∙◌, subst, mul-le-mul_right, mul_assoc, mul_comm, zero-add}
 use native.Mathlib.Nat.{one-le-mul}
-use Rattle.std.specs.List.{range_with_len, flat_map, AllByRecursion as All}
+use Rattle.std.specs.List.{range_with_len, flat_map, AllByRecursion}
 use Rattle.std.proofs.ByRecursion.{All-append, All-map}
 use Rattle.systems.specs.Meaning.{Meaning, Move, Ruled, total}
 use Rattle.systems.specs.Piles.{cross}
@@ -42,7 +42,7 @@ module _ (A : ℕ → Bool) (R : Meaning) (hR : Ruled R) (ls : List Line) (m : �
         scale-le t h.2,
       )
 
-  lines-bounded : (xs : List Line) → All (Bounded m) xs → All (Bounded (m * R.mass)) (flat_map (new_lines A R ls) xs)
+  lines-bounded : (xs : List Line) → AllByRecursion (Bounded m) xs → AllByRecursion (Bounded (m * R.mass)) (flat_map (new_lines A R ls) xs)
   lines-bounded [] h = tt
   lines-bounded (l ∷ xs) h =
       All-append (Bounded (m * R.mass)) (new_lines A R ls l) (flat_map (new_lines A R ls) xs)

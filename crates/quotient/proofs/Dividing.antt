@@ -1,7 +1,7 @@
 -- What a node of a plan gives, as the program puts it.
 use Rattle.std.proofs.Common.{◌≡◌, ℕ, ◌+◌, ◌-◌, ◌*◌, ◌/◌, ◌%◌, ◌<◌, ◌≤◌, Bool, true, false, cond, ltb, List, [], ◌∷◌, ◌++◌, map, length, get_or, take, drop, Some, None, sum_by, Option, sym, refl, ap, ◌∙◌, ap₂, ⊎_elim, mul-le-mul_right, mul_assoc, arith}
 use mathlib.Core.Path.{fun_ext}
-use Rattle.std.specs.List.{range_with_len, flat_map, AllByRecursion as All, slice_get}
+use Rattle.std.specs.List.{range_with_len, flat_map, AllByRecursion, slice_get}
 use Rattle.std.proofs.lemmas.List.{take_all, take-map, map-append}
 use Rattle.std.proofs.ByRecursion.{All-get_or, All-from_get_or, All-weaker}
 use Rattle.std.proofs.lemmas.Simd.{map-map}
@@ -53,7 +53,7 @@ plain-dist x (dn.TheVariants.Not i) fit no-sum = omega (arith, fit.right, fit.in
 plain-dist x (dn.TheVariants.Sum t r) fit no-sum = absurd (no-sum t r refl)
 
 -- the parts of a node that fits are in the plan
-pub all-inside : (x : Plan) (n : Node) (fit : Fit x n) (ds : List ℕ) → All (λ d. d < fit.index) ds → All (λ d. d < length (plan_nodes x)) ds
+pub all-inside : (x : Plan) (n : Node) (fit : Fit x n) (ds : List ℕ) → AllByRecursion (λ d. d < fit.index) ds → AllByRecursion (λ d. d < length (plan_nodes x)) ds
 all-inside x n fit ds h = All-weaker (λ d. d < fit.index) (λ d. d < length (plan_nodes x)) (λ d k. omega (arith, fit.inside)) ds h
 
 -- a number up to 1,000 × m, times the mass
@@ -69,7 +69,7 @@ module _ (x : Plan) (t : ℕ) (r : Run) (fit : Fit x (Dist (dn.TheVariants.Sum t
   pub light-threshold : t * x.mass ≤ 1000000000000000000
   light-threshold = weighed fit.removed x.mass t fit.light fit.right.low
 
-  pub light-terms : All (LightTerm x) (entries x.terms.now r)
+  pub light-terms : AllByRecursion (LightTerm x) (entries x.terms.now r)
   light-terms =
       let ks = entries x.terms.now r in
       All-from_get_or (LightTerm x) ks no-term (λ j k. record {
@@ -78,7 +78,7 @@ module _ (x : Plan) (t : ℕ) (r : Run) (fit : Fit x (Dist (dn.TheVariants.Sum t
       })
 
 -- so are those of a move or point
-pub light_targets : (R : Meaning) (x : Plan) → Planned R x → (mv : Move) → GoodIn R mv → All (LightTarget x) mv
+pub light_targets : (R : Meaning) (x : Plan) → Planned R x → (mv : Move) → GoodIn R mv → AllByRecursion (LightTarget x) mv
 light_targets R x planned mv good =
     All-from_get_or (LightTarget x) mv no_target (λ j h. record {
       near = omega (arith, (All-get_or _ mv j no_target h good.aimed).inside, planned.few);

@@ -1,7 +1,7 @@
 -- Laws of tests, sums and joined lists.
 use Rattle.std.proofs.Common.{◌≡◌, ℕ, zero, suc, ◌+◌, ◌-◌, ◌*◌, ◌<◌, ◌≤◌, Bool, true, false, ◌||◌, ◌⊎◌, List, [], ◌∷◌, ◌++◌, map, length, get_or, take, sum_by, sym, refl, ap, ◌∙◌, subst, ap₂, inl, inr, le_of_suc-le-suc, not-suc-le-zero, add-zero, suc-mul, mul-zero, zero-add, zero-mul, mul-add, arith}
 use mathlib.Core.Path.{fun_ext}
-use Rattle.std.specs.List.{range_with_len, flat_map, AllByRecursion as All}
+use Rattle.std.specs.List.{range_with_len, flat_map, AllByRecursion}
 use Rattle.std.proofs.lemmas.List.{get_or_append_left, get_or-append-add, length-append, length-map, get_or-map, take-take, map-id}
 use Rattle.std.proofs.ByRecursion.{All-append, All-map, All-weaker, All-from_get_or}
 use Rattle.std.proofs.lemmas.List.Sums.{sum_by-cons, sum_by-append, sum_by_more, sum_by-take-le}
@@ -44,7 +44,7 @@ module _ {X : Type 0} where
   any_append p [] ys = refl
   any_append p (x ∷ xs) ys = ap (λ b. p x || b) (any_append p xs ys) ∙ sym (or_assoc (p x) (any p xs) (any p ys))
 
-  pub any-on : {P : X → Type 0} {f g : X → Bool} (xs : List X) → All P xs → ((x : X) → P x → f x ≡ g x) → any f xs ≡ any g xs
+  pub any-on : {P : X → Type 0} {f g : X → Bool} (xs : List X) → AllByRecursion P xs → ((x : X) → P x → f x ≡ g x) → any f xs ≡ any g xs
   any-on [] h e = refl
   any-on (x ∷ xs) h e = ap₂ ◌||◌ (e x h.0) (any-on xs h.1 e)
 
@@ -77,7 +77,7 @@ module _ {X Y : Type 0} where
 
 -- sums
 module _ {X : Type 0} where
-  pub sumBy-on : {P : X → Type 0} {f g : X → ℕ} (xs : List X) → All P xs → ((x : X) → P x → f x ≡ g x) → sum_by f xs ≡ sum_by g xs
+  pub sumBy-on : {P : X → Type 0} {f g : X → ℕ} (xs : List X) → AllByRecursion P xs → ((x : X) → P x → f x ≡ g x) → sum_by f xs ≡ sum_by g xs
   sumBy-on [] h e = refl
   sumBy-on {P} {f} {g} (x ∷ xs) h e = sum_by-cons f x xs ∙ ap₂ ◌+◌ (e x h.0) (sumBy-on xs h.1 e) ∙ sym (sum_by-cons g x xs)
 
@@ -139,7 +139,7 @@ module _ {X Y Z : Type 0} (f : X → Y → Z) where
   length-cross [] ys = sym (zero-mul (length ys))
   length-cross (x ∷ xs) ys = length-append (map (f x) ys) (cross f xs ys) ∙ omega (arith, length-map ys (f x), length-cross xs ys, suc-mul (length xs) (length ys))
 
-  pub all_cross : {P : X → Type 0} {Q : Y → Type 0} (R : Z → Type 0) (xs : List X) (ys : List Y) → All P xs → All Q ys → ((x : X) (y : Y) → P x → Q y → R (f x y)) → All R (cross f xs ys)
+  pub all_cross : {P : X → Type 0} {Q : Y → Type 0} (R : Z → Type 0) (xs : List X) (ys : List Y) → AllByRecursion P xs → AllByRecursion Q ys → ((x : X) (y : Y) → P x → Q y → R (f x y)) → AllByRecursion R (cross f xs ys)
   unfolding cross
   all_cross R [] ys p q e = tt
   all_cross {P} {Q} R (x ∷ xs) ys p q e =
@@ -177,11 +177,11 @@ module _ {X Y : Type 0} (f : X → List Y) (w : X → ℕ) (same : (x : X) → l
           let r = rest k in
           record { part = suc r.part; inner = r.inner; within = omega (arith, r.within); short = r.short; sum_is = omega (arith, r.sum_is, sum_by-cons w x (take r.part xs)) }
 
-pub all_counting : (P : ℕ → Type 0) (b n : ℕ) → ((j : ℕ) → j < n → P (b + j)) → All P (range_with_len b n)
+pub all_counting : (P : ℕ → Type 0) (b n : ℕ) → ((j : ℕ) → j < n → P (b + j)) → AllByRecursion P (range_with_len b n)
 all_counting P b zero h = tt
 all_counting P b (suc n) h = (subst P (add-zero b) (h 0 (omega arith)), all_counting P (b + 1) n (λ j l. subst P (omega arith) (h (suc j) (omega arith))))
 
-pub all-joined : {X Y : Type 0} (P : Y → Type 0) (f : X → List Y) → ((x : X) → All P (f x)) → (xs : List X) → All P (flat_map f xs)
+pub all-joined : {X Y : Type 0} (P : Y → Type 0) (f : X → List Y) → ((x : X) → AllByRecursion P (f x)) → (xs : List X) → AllByRecursion P (flat_map f xs)
 all-joined P f h [] = tt
 all-joined P f h (x ∷ xs) = All-append P (f x) (flat_map f xs) (h x) (all-joined P f h xs)
 

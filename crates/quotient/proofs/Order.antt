@@ -3,7 +3,7 @@ use Rattle.std.proofs.Common.{◌≡◌, ℕ, ◌+◌, ◌*◌, ◌/◌, ◌%◌
 use mathlib.Core.List.{Permᴰ}
 use native.Mathlib.Nat.{one-le-mul, zero-div, zero-mod}
 use lib.Arith.{digits_lt}
-use Rattle.std.specs.List.{AllByRecursion as All}
+use Rattle.std.specs.List.{AllByRecursion}
 use Rattle.std.proofs.lemmas.Nat.{div-add-mod', div-mul-add, mod-mul-add, div_below, mod_below}
 use Rattle.systems.specs.Meaning.{Meaning, Move, Shaped, point}
 use Rattle.systems.specs.Piles.{cross, over, pair, moves_over, pile}
@@ -145,14 +145,14 @@ under course A r X X' hr hX hX' e F hF =
     let q = quotient-law course A r X F hr hX hF in
     sym q.1 ∙ e (quotient A r F) q.0 ∙ (quotient-law course A r X' F hr hX' hF).1
 
-shaped_perm : {rs rs' : List Meaning} → Permᴰ rs rs' → All Shaped rs → All Shaped rs'
+shaped_perm : {rs rs' : List Meaning} → Permᴰ rs rs' → AllByRecursion Shaped rs → AllByRecursion Shaped rs'
 shaped_perm Permᴰ.nil h = tt
 shaped_perm (Permᴰ.cons e p) h = (subst Shaped e h.0, shaped_perm p h.1)
 shaped_perm (Permᴰ.swap e e') h = (subst Shaped e' h.1.0, (subst Shaped e h.0, h.1.1))
 shaped_perm (Permᴰ.trans p q) h = shaped_perm q (shaped_perm p h)
 
 module _ (course : CourseLaw) (A : ℕ → Bool) (S : Meaning) (hS : Shaped S) where
-  order : {rs rs' : List Meaning} → Permᴰ rs rs' → All Shaped rs → (F : Formula) → WellFormed F → holds (stack A rs S) F ≡ holds (stack A rs' S) F
+  order : {rs rs' : List Meaning} → Permᴰ rs rs' → AllByRecursion Shaped rs → (F : Formula) → WellFormed F → holds (stack A rs S) F ≡ holds (stack A rs' S) F
   order Permᴰ.nil h F hF = refl
   order (Permᴰ.cons {a} {b} {l₁} {l₂} e p) h F hF =
       under course A a (stack A l₁ S) (stack A l₂ S) h.0 (stack_shaped A l₁ S h.1 hS) (stack_shaped A l₂ S (shaped_perm p h.1) hS) (order p h.1) F hF

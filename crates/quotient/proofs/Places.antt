@@ -1,6 +1,6 @@
 -- Where the rows of a system and the lines of a quotient are, and that the quotient is well-formed.
 use Rattle.std.proofs.Common.{◌≡◌, ℕ, ◌+◌, ◌<◌, ◌≤◌, Bool, true, false, List, [], map, length, get_or, sum_by, sym, refl, ap, ◌∙◌, subst, zero-add, arith}
-use Rattle.std.specs.List.{range_with_len, flat_map, AllByRecursion as All}
+use Rattle.std.specs.List.{range_with_len, flat_map, AllByRecursion}
 use Rattle.std.proofs.lemmas.List.{length-append, get_or_append_left, get_or-append-add, take_all}
 use Rattle.std.proofs.ByRecursion.{All-append, All-map, All-weaker, All-get_or}
 use Rattle.std.proofs.lemmas.List.FromFn.{length-map-range_with_len, get_or-map-range_with_len}
@@ -54,7 +54,7 @@ module _ (R : Meaning) where
       ∙ numbered-at (R.moves p) 32 a j [] ha hj
 
   -- what holds of the points and of the moves holds of the rows
-  pub rows_all : (P : Move → Type 0) → ((p : ℕ) → p < R.states → P (point R p)) → ((p a : ℕ) → All P (R.moves p a)) → (r : ℕ) → r < length (rows R) → P (row R r)
+  pub rows_all : (P : Move → Type 0) → ((p : ℕ) → p < R.states → P (point R p)) → ((p a : ℕ) → AllByRecursion P (R.moves p a)) → (r : ℕ) → r < length (rows R) → P (row R r)
   unfolding rows points moves
   rows_all P hp hm r l =
       All-get_or P (rows R) r [] l
@@ -107,11 +107,11 @@ module _ (A : ℕ → Bool) (R : Meaning) (ls : List Line) where
     New : Sort → ℕ → Type 0
     New σ n = Part (quotient_lines A R ls) (place R ls i p) σ n
 
-    places-fit : (q : ℕ) (ds : List ℕ) → q < R.states → All (Part ls i dist) ds → All (New dist) (places R ls ds q)
+    places-fit : (q : ℕ) (ds : List ℕ) → q < R.states → AllByRecursion (Part ls i dist) ds → AllByRecursion (New dist) (places R ls ds q)
     unfolding New
     places-fit q ds l ps = All-map (New dist) (λ d. place R ls d q) ds (All-weaker (Part ls i dist) (λ d. New dist (place R ls d q)) (λ d part. part-place i p h dist d q part (point-row R q l)) ds ps)
 
-    move-places-fit : (q a : ℕ) (ds : List ℕ) → q < R.states → a < 32 → All (Part ls i dist) ds → All (New dist) (move_places R ls ds q a)
+    move-places-fit : (q a : ℕ) (ds : List ℕ) → q < R.states → a < 32 → AllByRecursion (Part ls i dist) ds → AllByRecursion (New dist) (move_places R ls ds q a)
     unfolding New
     move-places-fit q a ds l ha ps =
         all_cross (place R ls) (New dist) ds (move_rows R q a) ps (all_counting (λ r. r < length (rows R)) (first_row R q a) (length (R.moves q a)) (λ j k. move_row R q a j l ha k))

@@ -1,7 +1,7 @@
 -- A quotient holds of a system exactly if the formula holds of the removed system over it.
 use Rattle.std.proofs.Common.{◌≡◌, ℕ, ◌+◌, ◌*◌, ◌<◌, Bool, true, false, cond, not, ◌&&◌, ◌||◌, leb, List, [], ◌++◌, map, length, sym, refl, ap, ◌∙◌, subst, ap₂, add-zero, mul_assoc, zero-mul, arith}
 use mathlib.Core.Path.{subst₃}
-use Rattle.std.specs.List.{AllByRecursion as All}
+use Rattle.std.specs.List.{AllByRecursion}
 use Rattle.systems.specs.Meaning.{Meaning, Move, Shaped, point}
 use Rattle.systems.specs.Piles.{cross, pair, moves_over, pile}
 use Rattle.formulas.specs.declared.node.Term.{Term}
@@ -26,7 +26,7 @@ module _ (A : ℕ → Bool) (R S : Meaning) where
   module _ (hR : Shaped R) (hS : Shaped S) (ls : List Line) (i : ℕ) (T T' : List Truth)
       (match : (σ : Sort) (j p : ℕ) → Part ls i σ j → p < width R σ → Match σ p (look T j) (look T' (place R ls j p))) where
     -- the parts of a step, at the moves of p and at its point
-    moves-match : (p a : ℕ) (mv : Move) (ms : List ℕ) → p < R.states → a < 32 → Into S.states mv → All (Part ls i dist) ms
+    moves-match : (p a : ℕ) (mv : Move) (ms : List ℕ) → p < R.states → a < 32 → Into S.states mv → AllByRecursion (Part ls i dist) ms
         → any (λ x. (look T' x).of mv) (move_places R ls ms p a) ≡ any (λ mu. any (λ d. (look T d).of (pair S.states mu mv)) ms) (R.moves p a)
     moves-match p a mv ms hp ha hv h =
         any-cross (place R ls) (λ x. (look T' x).of mv) ms (move_rows R p a)
@@ -35,7 +35,7 @@ module _ (A : ℕ → Bool) (R S : Meaning) where
         (λ j l. match dist d (first_row R p a + j) part (move_row R p a j hp ha l) mv hv ∙ ap (λ (mu : Move). (look T d).of (pair S.states mu mv)) (row_move R p a j hp ha l)))
         ∙ any_swap (λ d mu. (look T d).of (pair S.states mu mv)) ms (R.moves p a)
 
-    point-match : (p : ℕ) (mv : Move) (ds : List ℕ) → p < R.states → Into S.states mv → All (Part ls i dist) ds
+    point-match : (p : ℕ) (mv : Move) (ds : List ℕ) → p < R.states → Into S.states mv → AllByRecursion (Part ls i dist) ds
         → any (λ x. (look T' x).of mv) (places R ls ds p) ≡ any (λ d. (look T d).of (pair S.states (point R p) mv)) ds
     point-match p mv ds hp hv h =
         any-map (λ x. (look T' x).of mv) (λ d. place R ls d p) ds
@@ -78,7 +78,7 @@ module _ (A : ℕ → Bool) (R S : Meaning) where
             ∙ sym (or_assoc (any some upper) (any some lower) here)
             ∙ ap (λ b. b || here) (sym (any_append some upper lower))
 
-    sum-match : (p : ℕ) (mv : Move) (ks : List Term) → p < length (rows R) → Into S.states mv → All (λ k. Part ls i state k.node) ks
+    sum-match : (p : ℕ) (mv : Move) (ks : List Term) → p < length (rows R) → Into S.states mv → AllByRecursion (λ k. Part ls i state k.node) ks
         → total (at_node T') (cross (new_term R ls) ks (row R p)) mv ≡ total (at_node T) ks (pair S.states (row R p) mv)
     sum-match p mv ks hp hv h =
         sumBy-cross (new_term R ls) (λ k. k.coefficient * weigh (at_node T' k.node) mv) ks (row R p)

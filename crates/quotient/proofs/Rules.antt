@@ -1,7 +1,7 @@
 -- Piles and stacks of systems in shape are in shape, and so is a system that keeps the rules.
 use Rattle.std.proofs.Common.{ℕ, ◌*◌, ◌/◌, ◌%◌, ◌<◌, ◌≤◌, Bool, ltb, List, [], ◌∷◌, ◌++◌, map, length, get_or, arith}
 use native.Mathlib.Nat.{one-le-mul}
-use Rattle.std.specs.List.{AllByRecursion as All}
+use Rattle.std.specs.List.{AllByRecursion}
 use Rattle.std.proofs.ByRecursion.{All-append, All-map, All-weaker, All-get_or}
 use Rattle.std.proofs.lemmas.Bool.{ltb-true, cond_both}
 use Rattle.std.proofs.lemmas.Nat.{div_below, mod_below}
@@ -23,12 +23,12 @@ module _ (A : ℕ → Bool) (U L : Meaning) (some : 1 ≤ L.states) where
 
   -- what holds of the pairs of what holds of upper and of lower moves and points
   by-pairs : (G H Q : Move → Type 0)
-      → ((u a : ℕ) → All G (U.moves u a)) → ((u : ℕ) → u < U.states → G (point U u))
-      → ((v a : ℕ) → All H (L.moves v a)) → ((v : ℕ) → v < L.states → H (point L v))
-      → ((mu ml : Move) → G mu → H ml → Q (pair L.states mu ml)) → (k a : ℕ) → All Q ((pile A U L).moves k a)
+      → ((u a : ℕ) → AllByRecursion G (U.moves u a)) → ((u : ℕ) → u < U.states → G (point U u))
+      → ((v a : ℕ) → AllByRecursion H (L.moves v a)) → ((v : ℕ) → v < L.states → H (point L v))
+      → ((mu ml : Move) → G mu → H ml → Q (pair L.states mu ml)) → (k a : ℕ) → AllByRecursion Q ((pile A U L).moves k a)
   unfolding moves_over
-  by-pairs G H Q mg pg mh ph q k a = by-states (All Q) k a (λ u v hu hv.
-      cond_both (A a) (cross (pair L.states) (U.moves u a) (L.moves v a)) (map (λ mu. pair L.states mu (point L v)) (U.moves u a) ++ map (pair L.states (point U u)) (L.moves v a)) (All Q)
+  by-pairs G H Q mg pg mh ph q k a = by-states (AllByRecursion Q) k a (λ u v hu hv.
+      cond_both (A a) (cross (pair L.states) (U.moves u a) (L.moves v a)) (map (λ mu. pair L.states mu (point L v)) (U.moves u a) ++ map (pair L.states (point U u)) (L.moves v a)) (AllByRecursion Q)
       (λ _. all_cross (pair L.states) Q (U.moves u a) (L.moves v a) (mg u a) (mh v a) q)
       (λ _. All-append Q (map (λ mu. pair L.states mu (point L v)) (U.moves u a)) (map (pair L.states (point U u)) (L.moves v a))
       (All-map Q (λ mu. pair L.states mu (point L v)) (U.moves u a) (All-weaker G (λ mu. Q (pair L.states mu (point L v))) (λ mu g. q mu (point L v) g (ph v hv)) (U.moves u a) (mg u a)))
@@ -42,7 +42,7 @@ pile_shaped A U L hU hL = record {
       hU.closed (λ u l. (l, tt)) hL.closed (λ v l. (l, tt)) (pair_into U.states L.states);
 }
 
-pub stack_shaped : (A : ℕ → Bool) (rs : List Meaning) (S : Meaning) → All Shaped rs → Shaped S → Shaped (stack A rs S)
+pub stack_shaped : (A : ℕ → Bool) (rs : List Meaning) (S : Meaning) → AllByRecursion Shaped rs → Shaped S → Shaped (stack A rs S)
 stack_shaped A [] S hs h = h
 stack_shaped A (r ∷ rs) S hs h = pile_shaped A r (stack A rs S) hs.0 (stack_shaped A rs S hs.1 h)
 

@@ -1,7 +1,7 @@
 -- What is proved of quotients and stacks.
 use Rattle.std.specs.Prelude.{◌≡◌, ℕ, ◌+◌, ◌*◌, ◌<◌, Bool, List, length}
 use mathlib.Core.List.{Permᴰ}
-use Rattle.std.specs.List.{AllByRecursion as All}
+use Rattle.std.specs.List.{AllByRecursion}
 use Rattle.systems.specs.Meaning.{Meaning, Move, Shaped, Ruled}
 use Rattle.systems.specs.Piles.{pile, pair}
 use Rattle.formulas.specs.Lines.{state, dist, Formula}
@@ -12,7 +12,7 @@ use Rattle.formulas.specs.WellFormed.{Part, WellFormed, Bounded}
 
 -- every target is one of n states
 abbrev pub Into : ℕ → Move → Type 0
-Into n mv = All (λ t. t.state < n) mv
+Into n mv = AllByRecursion (λ t. t.state < n) mv
 
 -- a quotient holds of a system exactly if the formula holds of the removed system piled over it
 abbrev pub QuotientLaw : Type 0
@@ -40,15 +40,15 @@ abbrev pub BoundsLaw : Type 0
 BoundsLaw =
     (A : ℕ → Bool) (R : Meaning) (F : Formula) (m : ℕ) →
     Ruled R →
-    All (Bounded m) F.lines →
-    All (Bounded (m * R.mass)) (quotient A R F).lines
+    AllByRecursion (Bounded m) F.lines →
+    AllByRecursion (Bounded (m * R.mass)) (quotient A R F).lines
 
 -- the order of the systems in a stack does not matter
 abbrev pub OrderLaw : Type 0
 OrderLaw =
     (A : ℕ → Bool) (S : Meaning) (rs rs' : List Meaning) (F : Formula) →
     Shaped S →
-    All Shaped rs →
+    AllByRecursion Shaped rs →
     Permᴰ rs rs' →
     WellFormed F →
     holds (stack A rs S) F ≡ holds (stack A rs' S) F

@@ -1,6 +1,6 @@
 // The lines of a quotient, as they are written to the second tables.
 ghost use Rattle.std.specs.Prelude.{◌≡◌, ℕ, ◌+◌, ◌*◌, ◌<◌, ◌≤◌, true, [], ◌++◌, map, length, take, if◌then◌else◌, slice_index_or};
-ghost use Rattle.std.specs.List.{range_with_len, flat_map, AllByRecursion as All};
+ghost use Rattle.std.specs.List.{range_with_len, flat_map, AllByRecursion};
 ghost use Rattle.systems.specs.Meaning.{Meaning, point};
 ghost use Rattle.systems.specs.Piles.{cross};
 ghost use Rattle.formulas.specs.Append.{Table, table};
@@ -28,7 +28,7 @@ const NO_TARGET: Target = Target {
 // Appends the lines of the parts at the state or row `p`.
 fn put_places(plan: Plan, parts: &[u32], p: u32, out: &mut AppendList<u32>)
     requires sampling { Sampling plan }
-    requires inside { All (λ d. d < length (plan_nodes plan)) parts.now }
+    requires inside { AllByRecursion (λ d. d < length (plan_nodes plan)) parts.now }
     requires small { p ≤ 1073741824 }
     ensures same { out.new.slots.ghost_name ≡ out.old.slots.ghost_name }
     ensures wrote { table out.new ≡ extended (table out.old) (map (λ d. place_in plan.entry d p) parts.now) }
@@ -55,7 +55,7 @@ fn put_rows(plan: Plan, d: u32, first: u32, count: u32, out: &mut AppendList<u32
 // Appends the lines of the parts at `count` rows from `first` on.
 fn put_crossed(plan: Plan, parts: &[u32], first: u32, count: u32, out: &mut AppendList<u32>)
     requires sampling { Sampling plan }
-    requires inside { All (λ d. d < length (plan_nodes plan)) parts.now }
+    requires inside { AllByRecursion (λ d. d < length (plan_nodes plan)) parts.now }
     requires small { first + count ≤ 1073741824 }
     ensures same { out.new.slots.ghost_name ≡ out.old.slots.ghost_name }
     ensures wrote { table out.new ≡ extended (table out.old) (cross (place_in plan.entry) parts.now (range_with_len first count)) }
@@ -76,7 +76,7 @@ fn put_move_parts(
     out: &mut AppendList<u32>,
 )
     requires sampling { Sampling plan }
-    requires inside { All (λ d. d < length (plan_nodes plan)) parts.now }
+    requires inside { AllByRecursion (λ d. d < length (plan_nodes plan)) parts.now }
     requires point { p ≤ 1073741824 }
     requires small { first + count ≤ 1073741824 }
     ensures same { out.new.slots.ghost_name ≡ out.old.slots.ghost_name }
@@ -101,8 +101,8 @@ fn put_here_parts(
     out: &mut AppendList<u32>,
 )
     requires sampling { Sampling plan }
-    requires inside { All (λ d. d < length (plan_nodes plan)) parts.now }
-    requires heres { All (λ d. d < length (plan_nodes plan)) heres.now }
+    requires inside { AllByRecursion (λ d. d < length (plan_nodes plan)) parts.now }
+    requires heres { AllByRecursion (λ d. d < length (plan_nodes plan)) heres.now }
     requires point { p ≤ 1073741824 }
     requires small { first + count ≤ 1073741824 }
     ensures same { out.new.slots.ghost_name ≡ out.old.slots.ghost_name }
@@ -183,7 +183,7 @@ fn put_steps<S: System>(
 // Appends the terms that a term gives: one for each target.
 fn put_targets(plan: Plan, targets: &[Target], term: Term, out: &mut AppendList<Term>)
     requires sampling { Sampling plan }
-    requires targets { All (LightTarget plan) targets.now }
+    requires targets { AllByRecursion (LightTarget plan) targets.now }
     requires term { LightTerm plan term }
     ensures same { out.new.slots.ghost_name ≡ out.old.slots.ghost_name }
     ensures wrote { table out.new ≡ extended (table out.old) (map (term_at plan.entry term) targets.now) }
@@ -200,8 +200,8 @@ fn put_targets(plan: Plan, targets: &[Target], term: Term, out: &mut AppendList<
 // Appends the terms that the terms of a sum give.
 fn put_terms(plan: Plan, targets: &[Target], parts: &[Term], out: &mut AppendList<Term>)
     requires sampling { Sampling plan }
-    requires targets { All (LightTarget plan) targets.now }
-    requires terms { All (LightTerm plan) parts.now }
+    requires targets { AllByRecursion (LightTarget plan) targets.now }
+    requires terms { AllByRecursion (LightTerm plan) parts.now }
     ensures same { out.new.slots.ghost_name ≡ out.old.slots.ghost_name }
     ensures wrote { table out.new ≡ extended (table out.old) (cross (term_at plan.entry) parts.now targets.now) }
 {
@@ -220,7 +220,7 @@ fn put_sum(
     terms: &mut AppendList<Term>,
 )
     requires sampling { Sampling plan }
-    requires targets { All (LightTarget plan) targets.now }
+    requires targets { AllByRecursion (LightTarget plan) targets.now }
     requires fit { Fit plan (Node.Dist (DistNode.Sum threshold run)) }
     ensures lent { (nodes.new.slots.ghost_name ≡ nodes.old.slots.ghost_name) × (terms.new.slots.ghost_name ≡ terms.old.slots.ghost_name) }
     ensures wrote { (alts : Table ℕ) → stored (table nodes.new) (table terms.new) alts ≡ lay (stored (table nodes.old) (table terms.old) alts) (sum_at plan.entry threshold (entries plan.entry.terms.now run) targets.now) }

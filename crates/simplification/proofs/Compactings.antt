@@ -1,7 +1,7 @@
 -- The third pass, node after node.
 use Rattle.std.proofs.Common.{◌≡◌, ℕ, ◌+◌, ◌<◌, ◌≤◌, Bool, true, false, cond, List, [], ◌∷◌, ◌++◌, map, length, get_or, take, set, sym, refl, ap, ◌∙◌, subst, ap₂, ⊎_elim, arith}
 use mathlib.Core.Bool.{false≢true}
-use Rattle.std.specs.List.{AllByRecursion as All}
+use Rattle.std.specs.List.{AllByRecursion}
 use Rattle.std.proofs.lemmas.List.{append-nil, length-map, length_push, get_or-set_same, get_or-set_other, take_all}
 use Rattle.std.proofs.ByRecursion.{All-weaker}
 use Rattle.std.proofs.lemmas.Bool.{eq-eqb, ne_eqb, cases_eq, cases_lt}
@@ -24,12 +24,12 @@ use Rattle.simplification.proofs.Fewer.{compact-terms, compact-alternatives}
 use Rattle.simplification.proofs.Here.{terms-before, alternatives-before, Overlaid, fit-here, line-here}
 
 -- numbers that agree on the parts
-map_same : {X Y : Type 0} (f g : X → Y) (xs : List X) → All (λ x. f x ≡ g x) xs → map f xs ≡ map g xs
+map_same : {X Y : Type 0} (f g : X → Y) (xs : List X) → AllByRecursion (λ x. f x ≡ g x) xs → map f xs ≡ map g xs
 map_same f g [] h = refl
 map_same f g (x ∷ xs) h = ap₂ (λ y ys. y ∷ ys) h.0 (map_same f g xs h.1)
 
 module _ (f g : ℕ → ℕ) where
-  renumber-same : (l : Line) → All (λ j. f j ≡ g j) (parts l) → renumber f l ≡ renumber g l
+  renumber-same : (l : Line) → AllByRecursion (λ j. f j ≡ g j) (parts l) → renumber f l ≡ renumber g l
   renumber-same (constant σ b) h = refl
   renumber-same (both σ i j) h = ap₂ (λ (x y : ℕ). both σ x y) h.0 h.1.0
   renumber-same (non σ i) h = ap (non σ) h.0
@@ -54,7 +54,7 @@ pub compacting_none : (keep : ℕ → Bool) (ls : List Line) (s : Slots) (to : L
 compacting_none keep ls s to = record { front = front_none s; count = refl; numbered = λ j h. absurd (omega arith); unread = λ j h. refl }
 
 module _ (s₀ : Slots) (P : Packed s₀) (to₀ : List ℕ)
-    (closed : (i : ℕ) → i < length s₀.nodes → is_ticked to₀ i ≡ true → All (λ j. is_ticked to₀ j ≡ true) (parts (line_at (all_lines s₀) i)))
+    (closed : (i : ℕ) → i < length s₀.nodes → is_ticked to₀ i ≡ true → AllByRecursion (λ j. is_ticked to₀ j ≡ true) (parts (line_at (all_lines s₀) i)))
     (i : ℕ) (f : Fills) (s : Slots) (to : List ℕ) (S : Compacting (is_ticked to₀) (all_lines s₀) s₀ to₀ i f s to) (here : i < length s₀.nodes) where
   abbrev ls : List Line
   ls = all_lines s₀
@@ -109,7 +109,7 @@ module _ (s₀ : Slots) (P : Packed s₀) (to₀ : List ℕ)
   kept-turn f' s' to' g tick r =
       let m : Line = renumber (rank keep) l in
       let on : keep i ≡ true = eq-eqb (get_or to₀ i 0) 1 (sym (S.unread i (omega arith)) ∙ tick) in
-      let agree : All (λ j. new_number to j ≡ rank keep j) (parts l) =
+      let agree : AllByRecursion (λ j. new_number to j ≡ rank keep j) (parts l) =
       All-weaker (λ j. (keep j ≡ true) × (j < i)) (λ j. new_number to j ≡ rank keep j) (λ j q. S.numbered j q.1 q.0) (parts l)
       (all_both (λ j. keep j ≡ true) (λ j. j < i) (parts l) (closed i here on) (o i h)) in
       let now : renumber (new_number to) (line s.terms s.alternatives (get_or s.nodes i blank_node)) ≡ m =

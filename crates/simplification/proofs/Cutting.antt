@@ -1,6 +1,6 @@
 -- From the lines to those that the root reaches.
 use Rattle.std.proofs.Common.{◌≡◌, ℕ, ◌<◌, ◌≤◌, Bool, true, false, cond, eqb, List, [], ◌∷◌, length, get_or, replicate, sym, refl, ap, ◌∙◌, ⊎_elim, arith}
-use Rattle.std.specs.List.{AllByRecursion as All}
+use Rattle.std.specs.List.{AllByRecursion}
 use Rattle.std.proofs.lemmas.List.{length-map, get_or_past, get_or-replicate, length-replicate}
 use Rattle.std.proofs.ByRecursion.{All-weaker}
 use Rattle.std.proofs.lemmas.Bool.{cases_lt, cases_Bool}
@@ -51,7 +51,7 @@ module _ (F : Formula) (o : Ordered F.lines) (r : F.root < length F.lines) (to :
   ticks-are : is_ticked to ≡ kept F
   ticks-are = λ i j. ticked-is j i
 
-  pub ticks-closed : (i : ℕ) → i < length F.lines → is_ticked to i ≡ true → All (λ j. is_ticked to j ≡ true) (parts (line_at F.lines i))
+  pub ticks-closed : (i : ℕ) → i < length F.lines → is_ticked to i ≡ true → AllByRecursion (λ j. is_ticked to j ≡ true) (parts (line_at F.lines i))
   ticks-closed i h e =
       All-weaker (λ j. (kept F j ≡ true) × (j < i)) (λ j. is_ticked to j ≡ true) (λ j q. ticked-is j ∙ q.0) (parts (line_at F.lines i)) (kept-parts F o i h (sym (ticked-is i) ∙ e))
 

@@ -1,6 +1,6 @@
 -- Simplification keeps a formula well-formed, and its sums within their bounds.
 use Rattle.std.proofs.Common.{◌≡◌, ℕ, ◌<◌, ◌≤◌, Bool, true, false, cond, List, [], ◌∷◌, map, length, filter, sym, refl, ap, ◌∙◌, subst, arith}
-use Rattle.std.specs.List.{AllByRecursion as All}
+use Rattle.std.specs.List.{AllByRecursion}
 use Rattle.std.proofs.ByRecursion.{All-weaker, All-append, All-map, all_kept_by, All-get_or, All-from_get_or}
 use Rattle.std.proofs.lemmas.List.Sums.{sum_by-cons}
 use Rattle.formulas.specs.declared.node.Term.{Term}
@@ -23,7 +23,7 @@ Acts (sum t ks) = Unit {0}
 
 -- a line fits if its parts do and its action is right
 module _ (ls : List Line) (i : ℕ) where
-  pub fits-parts : (l : Line) → Fits ls i l → All (Part ls i (wants l)) (parts l)
+  pub fits-parts : (l : Line) → Fits ls i l → AllByRecursion (Part ls i (wants l)) (parts l)
   fits-parts (constant σ b) h = tt
   fits-parts (both σ j k) h = (h.0, (h.1, tt))
   fits-parts (non σ j) h = (h, tt)
@@ -37,7 +37,7 @@ module _ (ls : List Line) (i : ℕ) where
   fits-acts (step a ms hs) h = h.0
   fits-acts (sum t ks) h = tt
 
-  fits-from : (l : Line) → Acts l → All (Part ls i (wants l)) (parts l) → Fits ls i l
+  fits-from : (l : Line) → Acts l → AllByRecursion (Part ls i (wants l)) (parts l) → Fits ls i l
   fits-from (constant σ b) a h = tt
   fits-from (both σ j k) a h = (h.0, h.1.0)
   fits-from (non σ j) a h = h.0
@@ -69,7 +69,7 @@ abbrev Each : (Line → Type 0) → List Line → Type 0
 Each Q ls = (i : ℕ) → i < length ls → Q (line_at ls i)
 
 module _ (Q : Line → Type 0) (q : Lasting Q) where
-  turn-lasts : (n : ℕ) (E : ℕ → Outcome) (l : Line) (x : Outcome) → Turn n E l x → All (λ j. Q (E j).line) (parts l) → Q l → Q x.line
+  turn-lasts : (n : ℕ) (E : ℕ → Outcome) (l : Line) (x : Outcome) → Turn n E l x → AllByRecursion (λ j. Q (E j).line) (parts l) → Q l → Q x.line
   turn-lasts n E l x (settled b) h g = q.settles (sort l) b
   turn-lasts n E l x first h g = h.0
   turn-lasts n E l x second h g = h.1.0
@@ -108,20 +108,20 @@ acts_last = record { settles = λ σ b. tt; shrinks = shrinks; moves = moves }
 module _ (so : ℕ → Sort) where
   record Kind (σ : Sort) (l : Line) : Type 0 where
     is : sort l ≡ σ
-    right : All (λ j. so j ≡ wants l) (parts l)
+    right : AllByRecursion (λ j. so j ≡ wants l) (parts l)
 
   module _ (E : ℕ → Outcome) where
     record Known (σ : Sort) (j : ℕ) : Type 0 where
       kind : Kind σ (E j).line
       goes : so (E j).to ≡ σ
 
-    turn-kind : (n : ℕ) (l : Line) (x : Outcome) → Turn n E l x → All (Known (wants l)) (parts l) → Kind (sort l) x.line
+    turn-kind : (n : ℕ) (l : Line) (x : Outcome) → Turn n E l x → AllByRecursion (Known (wants l)) (parts l) → Kind (sort l) x.line
     turn-kind n l x (settled b) h = record { is = refl; right = tt }
     turn-kind n l x first h = h.0.kind
     turn-kind n l x second h = h.1.0.kind
     turn-kind n l x (stays s) h = record {
       is = shrunk-sort E l;
-      right = subst (λ (σ : Sort). All (λ j. so j ≡ σ) (parts (shrunk E l))) (sym (shrunk-wants E l))
+      right = subst (λ (σ : Sort). AllByRecursion (λ j. so j ≡ σ) (parts (shrunk E l))) (sym (shrunk-wants E l))
           (shrunk-parts E (λ j. so j ≡ wants l) l (All-weaker (Known (wants l)) (λ j. so (E j).to ≡ wants l) (λ j k. k.goes) (parts l) h));
     }
 
@@ -151,13 +151,13 @@ settle_form F w =
       lines = λ i h.
           let g : i < length ls = omega (arith, lines-length ls) in
           let q = placed ls o i g in
-          let fits : All (Part (lines_of ls) i (wants (outcome ls i).line)) (parts (outcome ls i).line) =
+          let fits : AllByRecursion (Part (lines_of ls) i (wants (outcome ls i).line)) (parts (outcome ls i).line) =
           All-weaker (λ j. (j < (outcome ls i).to) × (sort-of ls j ≡ wants (outcome ls i).line)) (Part (lines_of ls) i (wants (outcome ls i).line))
           (λ j r. record { before = omega (arith, r.0, q.near); sorted = ap sort (lines_get ls j) ∙ r.1 }) (parts (outcome ls i).line)
           (all_both (λ j. j < (outcome ls i).to) (λ j. sort-of ls j ≡ wants (outcome ls i).line) (parts (outcome ls i).line) q.below (kinds ls w.lines i g).right) in
           fits-from (lines_of ls) i (line_at (lines_of ls) i)
           (settle-lasts Acts acts_last F o (λ j k. fits-acts ls j (line_at ls j) (w.lines j k)) i h)
-          (subst (λ (l : Line). All (Part (lines_of ls) i (wants l)) (parts l)) (sym (lines_get ls i)) fits);
+          (subst (λ (l : Line). AllByRecursion (Part (lines_of ls) i (wants l)) (parts l)) (sym (lines_get ls i)) fits);
       root = record {
         before = omega (arith, p.near, w.root.before, lines-length ls);
         sorted = ap sort (lines_get ls (outcome ls F.root).to) ∙ (ap (λ (x : Outcome). sort x.line) p.stable ∙ (keeps_sort ls w.lines F.root w.root.before ∙ w.root.sorted));
@@ -170,7 +170,7 @@ prune_form F w =
     let o : Ordered ls = fitting_ordered ls w.lines in
     let moved : (j : ℕ) → j < length ls → kept F j ≡ true → sort (line_at (prune F).lines (place F j)) ≡ sort (line_at ls j) =
     λ j h k. ap sort (pruned-get F j h k) ∙ renumber-sort (place F) (line_at ls j) in
-    let fits : (i : ℕ) → i < length ls → kept F i ≡ true → All (Part (prune F).lines (place F i) (wants (renumber (place F) (line_at ls i)))) (parts (renumber (place F) (line_at ls i))) =
+    let fits : (i : ℕ) → i < length ls → kept F i ≡ true → AllByRecursion (Part (prune F).lines (place F i) (wants (renumber (place F) (line_at ls i)))) (parts (renumber (place F) (line_at ls i))) =
     λ i h k. renumber-parts (place F) (Part (prune F).lines (place F i) (wants (renumber (place F) (line_at ls i)))) (line_at ls i)
     (All-weaker (λ j. ((kept F j ≡ true) × (j < i)) × Part ls i (wants (line_at ls i)) j) (λ j. Part (prune F).lines (place F i) (wants (renumber (place F) (line_at ls i))) (place F j))
     (λ j r. record {
@@ -183,7 +183,7 @@ prune_form F w =
       lines = λ m h.
           fits-from (prune F).lines m (line_at (prune F).lines m)
           (prune-lasts Acts acts_last F (λ j k. fits-acts ls j (line_at ls j) (w.lines j k)) m h)
-          (pruned-each F (λ n l. All (Part (prune F).lines n (wants l)) (parts l)) fits m h);
+          (pruned-each F (λ n l. AllByRecursion (Part (prune F).lines n (wants l)) (parts l)) fits m h);
       root = record {
         before = place-within F F.root w.root.before (kept-root F);
         sorted = moved F.root w.root.before (kept-root F) ∙ w.root.sorted;

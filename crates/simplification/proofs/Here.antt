@@ -1,6 +1,6 @@
 -- Tables of lines, the front of each overwritten: the lines that lie further on are read as they were.
 use Rattle.std.proofs.Common.{◌≡◌, ℕ, ◌+◌, ◌^◌, ◌<◌, ◌≤◌, true, false, List, [], length, get_or, take, drop, sym, refl, ap, ◌∙◌, subst, arith}
-use Rattle.std.specs.List.{AllByRecursion as All}
+use Rattle.std.specs.List.{AllByRecursion}
 use Rattle.std.proofs.ByRecursion.{All-weaker}
 use Rattle.std.proofs.lemmas.List.{length-append, get_or_append_left}
 use Rattle.formulas.specs.declared.node.Term.{Term}
@@ -49,14 +49,14 @@ module _ (i : ℕ) (Q : ℕ → Type 0) (q : (j : ℕ) → j < i → Q j) (ts : 
     next = omega arith;
     within = omega (arith, w, length-append ms hs);
     small = few_alternatives;
-    moves = subst (All Q) (sym (part-front alts A ms hs y)) (All-weaker (λ j. j < i) Q q ms b.0);
-    heres = subst (All Q) (sym (part-back alts A ms hs y)) (All-weaker (λ j. j < i) Q q hs b.1);
+    moves = subst (AllByRecursion Q) (sym (part-front alts A ms hs y)) (All-weaker (λ j. j < i) Q q ms b.0);
+    heres = subst (AllByRecursion Q) (sym (part-back alts A ms hs y)) (All-weaker (λ j. j < i) Q q hs b.1);
   }
   fit-node (sum c ks) b v w x y = record {
     past = p;
     within = v;
     small = few_terms;
-    parts = subst (All (λ k. Q k.node)) (sym x) (All-weaker (λ k. k.node < i) (λ k. Q k.node) (λ k h. q k.node h) ks b);
+    parts = subst (AllByRecursion (λ k. Q k.node)) (sym x) (All-weaker (λ k. k.node < i) (λ k. Q k.node) (λ k h. q k.node h) ks b);
   }
 
 module _ (ls : List Line) (old : Slots) (B : laid ls old ≡ old) (i : ℕ) (h : i < length ls) (xs : List Line) (new : Slots) (V : Overlaid ls i old xs new) where

@@ -1,6 +1,6 @@
 -- What a program that simplifies in place asks of the definitions.
 use Rattle.std.proofs.Common.{◌≡◌, ℕ, suc, ◌+◌, ◌<◌, ◌≤◌, Bool, true, false, cond, List, [], ◌∷◌, ◌++◌, length, take, drop, sym, refl, ap, ◌∙◌, subst, ap₂, add-one, arith, length-take}
-use Rattle.std.specs.List.{AllByRecursion as All}
+use Rattle.std.specs.List.{AllByRecursion}
 use Rattle.std.proofs.ByRecursion.{All-weaker}
 use Rattle.std.proofs.lemmas.List.{take_more, drop_more}
 use Rattle.formulas.specs.Lines.{state, Line, constant, Formula}
@@ -10,25 +10,25 @@ use Rattle.simplification.proofs.Outcomes.{Ordered, outcome, shrunk-parts, Turn,
 use Rattle.simplification.proofs.Prune.{member_back, kept-only, compact-length}
 
 -- the parts of what lines become stand for themselves
-turn_fixed : (n : ℕ) (E : ℕ → Outcome) (l : Line) (x : Outcome) → Turn n E l x → All (λ j. All (λ k. (E k).to ≡ k) (parts (E j).line)) (parts l)
-    → All (λ j. (E (E j).to).to ≡ (E j).to) (parts l) → All (λ k. (E k).to ≡ k) (parts x.line)
+turn_fixed : (n : ℕ) (E : ℕ → Outcome) (l : Line) (x : Outcome) → Turn n E l x → AllByRecursion (λ j. AllByRecursion (λ k. (E k).to ≡ k) (parts (E j).line)) (parts l)
+    → AllByRecursion (λ j. (E (E j).to).to ≡ (E j).to) (parts l) → AllByRecursion (λ k. (E k).to ≡ k) (parts x.line)
 turn_fixed n E l x (settled b) h s = tt
 turn_fixed n E l x first h s = h.0
 turn_fixed n E l x second h s = h.1.0
 turn_fixed n E l x (stays t) h s = shrunk-parts E (λ k. (E k).to ≡ k) l s
 
-fixed : (ls : List Line) → Ordered ls → (i : ℕ) → i < length ls → All (λ k. (outcome ls k).to ≡ k) (parts (outcome ls i).line)
-fixed ls o = by-turns ls o (λ n x. All (λ k. (outcome ls k).to ≡ k) (parts x.line)) (λ n h f x t.
+fixed : (ls : List Line) → Ordered ls → (i : ℕ) → i < length ls → AllByRecursion (λ k. (outcome ls k).to ≡ k) (parts (outcome ls i).line)
+fixed ls o = by-turns ls o (λ n x. AllByRecursion (λ k. (outcome ls k).to ≡ k) (parts x.line)) (λ n h f x t.
     let l : Line = line_at ls n in
     turn_fixed n (outcome ls) l x t
-    (All-weaker (λ j. j < n) (λ j. All (λ k. (outcome ls k).to ≡ k) (parts (outcome ls j).line)) (λ j k. (f j k).1) (parts l) (o n h))
+    (All-weaker (λ j. j < n) (λ j. AllByRecursion (λ k. (outcome ls k).to ≡ k) (parts (outcome ls j).line)) (λ j k. (f j k).1) (parts l) (o n h))
     (All-weaker (λ j. j < n) (λ j. (outcome ls (outcome ls j).to).to ≡ (outcome ls j).to) (λ j k. ap (λ (y : Outcome). y.to) (f j k).0.stable) (parts l) (o n h)))
 
 -- only lines that stand for themselves are kept
 kept_fixed : (F : Formula) → Ordered F.lines → F.root < length F.lines → (i : ℕ) → kept (settle F) i ≡ true → (outcome F.lines i).to ≡ i
 kept_fixed F o r =
     kept-only (λ i. (outcome F.lines i).to ≡ i) (settle F) (ap (λ (y : Outcome). y.to) (placed F.lines o F.root r).stable)
-    (λ i h _. subst (λ (l : Line). All (λ k. (outcome F.lines k).to ≡ k) (parts l)) (sym (lines_get F.lines i)) (fixed F.lines o i (omega (arith, lines-length F.lines))))
+    (λ i h _. subst (λ (l : Line). AllByRecursion (λ k. (outcome F.lines k).to ≡ k) (parts l)) (sym (lines_get F.lines i)) (fixed F.lines o i (omega (arith, lines-length F.lines))))
 
 -- lines that are not reached may be anything
 reached-same : (i : ℕ) (xs ys : List Line) (r : List ℕ) → length xs ≡ length ys

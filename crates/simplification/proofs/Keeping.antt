@@ -1,6 +1,6 @@
 -- What is left of a run: entries that pass are moved down.
 use Rattle.std.proofs.Common.{◌≡◌, ℕ, ◌+◌, ◌-◌, ◌<◌, ◌≤◌, Bool, true, false, cond, List, [], ◌∷◌, map, length, get_or, take, set, sum_by, filter, sym, refl, ap, ◌∙◌, arith}
-use Rattle.std.specs.List.{AllByRecursion as All}
+use Rattle.std.specs.List.{AllByRecursion}
 use Rattle.std.proofs.lemmas.List.Elements.{filter_more}
 use Rattle.std.proofs.lemmas.List.Sums.{sum_by-cons, sum_by-append}
 use Rattle.formulas.specs.declared.node.Run.{Run}
@@ -15,7 +15,7 @@ module _ {X : Type 0} (f : X → Bool) (g : X → X) (xs ys : List X) (r : Run) 
   inside : r.first + k < length xs
   inside = omega arith
 
-  pub entry_at : (P : X → Type 0) (d : X) → All P (entries xs r) → P (get_or ys (r.first + k) d)
+  pub entry_at : (P : X → Type 0) (d : X) → AllByRecursion P (entries xs r) → P (get_or ys (r.first + k) d)
   entry_at P d a = moving-at f g xs r.first s ys k w m past inside P d r.count within turn a
 
   pub end_low : w ≤ r.first + k

@@ -1,6 +1,6 @@
 -- Lines laid out in tables: where each stands, and how it is read back.
 use Rattle.std.proofs.Common.{◌≡◌, ℕ, zero, suc, ◌+◌, ◌<◌, ◌≤◌, Bool, true, false, cond, List, [], ◌∷◌, ◌++◌, map, length, get_or, take, drop, set, sym, refl, ap, ◌∙◌, ap₂, le_of_suc-le-suc, not-suc-le-zero, arith}
-use Rattle.std.specs.List.{AllByRecursion as All}
+use Rattle.std.specs.List.{AllByRecursion}
 use Rattle.std.proofs.lemmas.List.{append_assoc, append-nil, length-append, take_at, take-take, drop_at, drop-drop, drop-take}
 use Rattle.std.proofs.ByRecursion.{All-append, All-map}
 use Rattle.formulas.specs.declared.node.Node.{Node}
@@ -169,7 +169,7 @@ tone-of_node T A (non dist i) = refl
 tone-of_node T A (step a ms hs) = refl
 tone-of_node T A (sum t ks) = refl
 
-below_parts : (i : ℕ) (l : Line) → Below i l → All (λ j. j < i) (parts l)
+below_parts : (i : ℕ) (l : Line) → Below i l → AllByRecursion (λ j. j < i) (parts l)
 below_parts i (constant σ b) h = tt
 below_parts i (both σ j k) h = (h.0, (h.1, tt))
 below_parts i (non σ j) h = (h, tt)
@@ -179,7 +179,7 @@ below_parts i (sum t ks) h = All-map (λ j. j < i) (λ k. k.node) ks h
 pub formed-ordered : (ls : List Line) → Formed ls → Ordered ls
 formed-ordered ls f i h = below_parts i (line_at ls i) (f i h)
 
-pub parts_below : (i : ℕ) (l : Line) → All (λ j. j < i) (parts l) → Below i l
+pub parts_below : (i : ℕ) (l : Line) → AllByRecursion (λ j. j < i) (parts l) → Below i l
 parts_below i (constant σ b) h = tt
 parts_below i (both σ j k) h = (h.0, h.1.0)
 parts_below i (non σ j) h = h.0

@@ -1,6 +1,6 @@
 -- What stands at the place of a line after the first pass.
 use Rattle.std.proofs.Common.{◌≡◌, ℕ, ◌-◌, ◌<◌, Bool, true, false, cond, not, eqb, ltb, List, [], ◌∷◌, ◌++◌, map, length, sym, refl, ap, ◌∙◌, ap₂, arith}
-use Rattle.std.specs.List.{AllByRecursion as All}
+use Rattle.std.specs.List.{AllByRecursion}
 use Rattle.std.proofs.lemmas.List.{length-map, get_or-map}
 use Rattle.std.proofs.ByRecursion.{All-weaker}
 use Rattle.formulas.specs.declared.node.Term.{Term}
@@ -18,30 +18,30 @@ module _ (E E' : ℕ → Outcome) where
     pub number : (E j).to ≡ (E' j).to
     pub same : tone (E j).line ≡ tone (E' j).line
 
-  left-alike : (ds : List ℕ) → All Alike ds → alternatives_left E ds ≡ alternatives_left E' ds
+  left-alike : (ds : List ℕ) → AllByRecursion Alike ds → alternatives_left E ds ≡ alternatives_left E' ds
   left-alike ds h =
       map-kept-same (λ d. (E d).to) (λ d. (E' d).to) (λ d. not (is_no (tone_of E d))) (λ d. not (is_no (tone_of E' d))) ds
       (All-weaker Alike (λ d. (not (is_no (tone_of E d)) ≡ not (is_no (tone_of E' d))) × ((E d).to ≡ (E' d).to))
       (λ d e. (ap (λ (o : Tone). not (is_no o)) e.same, e.number)) ds h)
 
-  yes-alike : (ds : List ℕ) → All Alike ds → has_yes E ds ≡ has_yes E' ds
+  yes-alike : (ds : List ℕ) → AllByRecursion Alike ds → has_yes E ds ≡ has_yes E' ds
   yes-alike ds h =
       any_same (λ d. is_yes (tone_of E d)) (λ d. is_yes (tone_of E' d)) ds
       (All-weaker Alike (λ d. is_yes (tone_of E d) ≡ is_yes (tone_of E' d)) (λ d e. ap is_yes e.same) ds h)
 
-  terms-alike : (ks : List Term) → All (λ k. Alike k.node) ks → terms_left E ks ≡ terms_left E' ks
+  terms-alike : (ks : List Term) → AllByRecursion (λ k. Alike k.node) ks → terms_left E ks ≡ terms_left E' ks
   terms-alike ks h =
       map-kept-same (retarget (λ j. (E j).to)) (retarget (λ j. (E' j).to)) (λ k. is_neither (tone_of E k.node)) (λ k. is_neither (tone_of E' k.node)) ks
       (All-weaker (λ k. Alike k.node)
       (λ k. (is_neither (tone_of E k.node) ≡ is_neither (tone_of E' k.node)) × (retarget (λ j. (E j).to) k ≡ retarget (λ j. (E' j).to) k))
       (λ k e. (ap is_neither e.same, λ i. record { coefficient = k.coefficient; node = e.number i })) ks h)
 
-  part-alike : (ks : List Term) → All (λ k. Alike k.node) ks → yes_part E ks ≡ yes_part E' ks
+  part-alike : (ks : List Term) → AllByRecursion (λ k. Alike k.node) ks → yes_part E ks ≡ yes_part E' ks
   part-alike ks h =
       ap coefficients (kept_same (λ k. is_yes (tone_of E k.node)) (λ k. is_yes (tone_of E' k.node)) ks
       (All-weaker (λ k. Alike k.node) (λ k. is_yes (tone_of E k.node) ≡ is_yes (tone_of E' k.node)) (λ k e. ap is_yes e.same) ks h))
 
-  pub leaves_alike : (l : Line) → All Alike (parts l) → leaves E l ≡ leaves E' l
+  pub leaves_alike : (l : Line) → AllByRecursion Alike (parts l) → leaves E l ≡ leaves E' l
   leaves_alike (constant σ b) h = refl
   leaves_alike (both σ i j) h = λ x. both_left σ (h.0.same x) (h.1.0.same x) (h.0.number x) (h.1.0.number x)
   leaves_alike (non σ i) h = ap₂ (λ (o : Tone) (j : ℕ). non_line σ o j) h.0.same h.0.number
@@ -66,7 +66,7 @@ module _ (E E' : ℕ → Outcome) where
   both-number n σ neither no a b a' b' x y = refl
   both-number n σ neither neither a b a' b' x y = refl
 
-  pub number-alike : (n : ℕ) (l : Line) → All Alike (parts l) → (became n E l).to ≡ (became n E' l).to
+  pub number-alike : (n : ℕ) (l : Line) → AllByRecursion Alike (parts l) → (became n E l).to ≡ (became n E' l).to
   number-alike n (constant σ b) h = refl
   number-alike n (both σ i j) h =
       ap₂ (λ (o p : Tone). (both_outcome n σ o p (E i) (E j)).to) h.0.same h.1.0.same
@@ -86,7 +86,7 @@ module _ (n : ℕ) (E : ℕ → Outcome) where
   both_own σ neither no a b x y e = refl
   both_own σ neither neither a b x y e = refl
 
-  own-leaves : (l : Line) → All (λ j. (E j).to < n) (parts l) → (became n E l).to ≡ n → (became n E l).line ≡ leaves E l
+  own-leaves : (l : Line) → AllByRecursion (λ j. (E j).to < n) (parts l) → (became n E l).to ≡ n → (became n E l).line ≡ leaves E l
   own-leaves (constant σ b) h e = refl
   own-leaves (both σ i j) h e = both_own σ (tone_of E i) (tone_of E j) (E i) (E j) h.0 h.1.0 e
   own-leaves (non σ i) h e = refl
@@ -95,7 +95,7 @@ module _ (n : ℕ) (E : ℕ → Outcome) where
 
 -- the parts of what is left
 module _ (E : ℕ → Outcome) (P : ℕ → Type 0) where
-  both-parts : (σ : Sort) (o p : Tone) (i j : ℕ) → P i → P j → All P (parts (both_left σ o p i j))
+  both-parts : (σ : Sort) (o p : Tone) (i j : ℕ) → P i → P j → AllByRecursion P (parts (both_left σ o p i j))
   both-parts σ yes yes i j x y = tt
   both-parts σ yes no i j x y = tt
   both-parts σ yes neither i j x y = tt
@@ -104,23 +104,23 @@ module _ (E : ℕ → Outcome) (P : ℕ → Type 0) where
   both-parts σ neither no i j x y = tt
   both-parts σ neither neither i j x y = (x, (y, tt))
 
-  non-parts : (σ : Sort) (o : Tone) (i : ℕ) → P i → All P (parts (non_line σ o i))
+  non-parts : (σ : Sort) (o : Tone) (i : ℕ) → P i → AllByRecursion P (parts (non_line σ o i))
   non-parts σ yes i x = tt
   non-parts σ no i x = tt
   non-parts σ neither i x = (x, tt)
 
-  step-parts : (b : Bool) (a : ℕ) (ms hs : List ℕ) → All P (ms ++ hs) → All P (parts (cond b (constant state true) (step_line a ms hs)))
+  step-parts : (b : Bool) (a : ℕ) (ms hs : List ℕ) → AllByRecursion P (ms ++ hs) → AllByRecursion P (parts (cond b (constant state true) (step_line a ms hs)))
   step-parts true a ms hs x = tt
   step-parts false a [] [] x = tt
   step-parts false a [] (h ∷ hs) x = x
   step-parts false a (m ∷ ms) hs x = x
 
-  sum-parts : (b c : Bool) (t : ℕ) (ks : List Term) → All P (map (λ k. k.node) ks) → All P (parts (cond b (constant dist true) (cond c (constant dist false) (sum t ks))))
+  sum-parts : (b c : Bool) (t : ℕ) (ks : List Term) → AllByRecursion P (map (λ k. k.node) ks) → AllByRecursion P (parts (cond b (constant dist true) (cond c (constant dist false) (sum t ks))))
   sum-parts true c t ks x = tt
   sum-parts false true t ks x = tt
   sum-parts false false t ks x = x
 
-  pub leaves-parts : (l : Line) → All (λ j. P (E j).to) (parts l) → All P (parts (leaves E l))
+  pub leaves-parts : (l : Line) → AllByRecursion (λ j. P (E j).to) (parts l) → AllByRecursion P (parts (leaves E l))
   leaves-parts (constant σ b) h = tt
   leaves-parts (both σ i j) h = both-parts σ (tone_of E i) (tone_of E j) (E i).to (E j).to h.0 h.1.0
   leaves-parts (non σ i) h = non-parts σ (tone_of E i) (E i).to h.0

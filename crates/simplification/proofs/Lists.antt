@@ -1,23 +1,23 @@
 -- Lists: what holds of each element, tests of some element, and lists that grow by what stands in them so far.
 use Rattle.std.proofs.Common.{◌≡◌, ℕ, zero, suc, ◌+◌, ◌<◌, ◌≤◌, Bool, true, false, cond, ◌||◌, List, [], ◌∷◌, ◌++◌, map, length, get_or, drop, fold, filter, sym, refl, ap, ◌∙◌, subst, ap₂, le_of_suc-le-suc, not-suc-le-zero, arith}
-use Rattle.std.specs.List.{AllByRecursion as All}
+use Rattle.std.specs.List.{AllByRecursion}
 use Rattle.std.proofs.lemmas.List.{length_push, get_or_append_left, get_or_push, at_drop_more, at_drop_all}
 use Rattle.formulas.specs.Truths.{any}
 
 module _ {X : Type 0} (P : X → Type 0) where
-  pub all-front : (xs ys : List X) → All P (xs ++ ys) → All P xs
+  pub all-front : (xs ys : List X) → AllByRecursion P (xs ++ ys) → AllByRecursion P xs
   all-front [] ys h = tt
   all-front (x ∷ xs) ys h = (h.0, all-front xs ys h.1)
 
-  pub all_back : (xs ys : List X) → All P (xs ++ ys) → All P ys
+  pub all_back : (xs ys : List X) → AllByRecursion P (xs ++ ys) → AllByRecursion P ys
   all_back [] ys h = h
   all_back (x ∷ xs) ys h = all_back xs ys h.1
 
-  pub all_both : (Q : X → Type 0) (xs : List X) → All P xs → All Q xs → All (λ x. P x × Q x) xs
+  pub all_both : (Q : X → Type 0) (xs : List X) → AllByRecursion P xs → AllByRecursion Q xs → AllByRecursion (λ x. P x × Q x) xs
   all_both Q [] h k = tt
   all_both Q (x ∷ xs) h k = ((h.0, k.0), all_both Q xs h.1 k.1)
 
-  pub all_of_map : {Y : Type 0} (f : Y → X) (ys : List Y) → All P (map f ys) → All (λ y. P (f y)) ys
+  pub all_of_map : {Y : Type 0} (f : Y → X) (ys : List Y) → AllByRecursion P (map f ys) → AllByRecursion (λ y. P (f y)) ys
   all_of_map f [] h = tt
   all_of_map f (y ∷ ys) h = (h.0, all_of_map f ys h.1)
 
@@ -32,7 +32,7 @@ module _ {X : Type 0} (p : X → Bool) (xs : List X) (i : ℕ) where
   pub any_none : any p xs ≡ any p (drop i xs) → length xs ≤ i → false ≡ any p xs
   any_none before h = sym (before ∙ at_drop_all (any p) xs i h)
 
-pub any_same : {X : Type 0} (f g : X → Bool) (xs : List X) → All (λ x. f x ≡ g x) xs → any f xs ≡ any g xs
+pub any_same : {X : Type 0} (f g : X → Bool) (xs : List X) → AllByRecursion (λ x. f x ≡ g x) xs → any f xs ≡ any g xs
 any_same f g [] h = refl
 any_same f g (x ∷ xs) h = ap₂ ◌||◌ h.0 (any_same f g xs h.1)
 
@@ -83,7 +83,7 @@ module _ {X Y : Type 0} where
   map-cond f true x r = refl
   map-cond f false x r = refl
 
-  pub map-kept-same : (f g : X → Y) (p q : X → Bool) (xs : List X) → All (λ x. (p x ≡ q x) × (f x ≡ g x)) xs → map f (filter p xs) ≡ map g (filter q xs)
+  pub map-kept-same : (f g : X → Y) (p q : X → Bool) (xs : List X) → AllByRecursion (λ x. (p x ≡ q x) × (f x ≡ g x)) xs → map f (filter p xs) ≡ map g (filter q xs)
   map-kept-same f g p q [] h = refl
   map-kept-same f g p q (x ∷ xs) h =
       let r = map-kept-same f g p q xs h.1 in
@@ -91,6 +91,6 @@ module _ {X Y : Type 0} where
       ∙ ((λ i. cond (h.0.0 i) (h.0.1 i ∷ r i) (r i))
       ∙ sym (map-cond g (q x) x (filter q xs)))
 
-pub kept_same : {X : Type 0} (p q : X → Bool) (xs : List X) → All (λ x. p x ≡ q x) xs → filter p xs ≡ filter q xs
+pub kept_same : {X : Type 0} (p q : X → Bool) (xs : List X) → AllByRecursion (λ x. p x ≡ q x) xs → filter p xs ≡ filter q xs
 kept_same p q [] h = refl
 kept_same p q (x ∷ xs) h = ap₂ (λ (b : Bool) (r : List _). cond b (x ∷ r) r) h.0 (kept_same p q xs h.1)

@@ -1,7 +1,7 @@
 -- What becomes of lines: it goes by their parts, and every stand-in stands for itself.
 use Rattle.std.proofs.Common.{◌≡◌, ℕ, ◌-◌, ◌<◌, ◌≤◌, Bool, true, false, cond, not, eqb, ltb, List, [], ◌∷◌, ◌++◌, map, length, get_or, filter, sym, refl, ap, ◌∙◌, subst, ap₂, arith}
 use lib.ListN.{get_or-map}
-use Rattle.std.specs.List.{AllByRecursion as All}
+use Rattle.std.specs.List.{AllByRecursion}
 use Rattle.std.proofs.lemmas.List.{length-map}
 use Rattle.std.proofs.ByRecursion.{All-weaker, All-append, All-map, all_kept_by}
 use Rattle.formulas.specs.declared.node.Term.{Term}
@@ -13,31 +13,31 @@ use Rattle.simplification.proofs.Lists.{all-front, all_back, all_of_map, any_sam
 
 -- what becomes of a line goes by what became of its parts
 module _ (E E' : ℕ → Outcome) where
-  left-same : (ds : List ℕ) → All (λ j. E j ≡ E' j) ds → alternatives_left E ds ≡ alternatives_left E' ds
+  left-same : (ds : List ℕ) → AllByRecursion (λ j. E j ≡ E' j) ds → alternatives_left E ds ≡ alternatives_left E' ds
   left-same ds h =
       map-kept-same (λ d. (E d).to) (λ d. (E' d).to) (λ d. not (is_no (tone_of E d))) (λ d. not (is_no (tone_of E' d))) ds
       (All-weaker (λ j. E j ≡ E' j) (λ d. (not (is_no (tone_of E d)) ≡ not (is_no (tone_of E' d))) × ((E d).to ≡ (E' d).to))
       (λ d e. (ap (λ (o : Outcome). not (is_no (tone o.line))) e, ap (λ (o : Outcome). o.to) e)) ds h)
 
-  has-yes-same : (ds : List ℕ) → All (λ j. E j ≡ E' j) ds → has_yes E ds ≡ has_yes E' ds
+  has-yes-same : (ds : List ℕ) → AllByRecursion (λ j. E j ≡ E' j) ds → has_yes E ds ≡ has_yes E' ds
   has-yes-same ds h =
       any_same (λ d. is_yes (tone_of E d)) (λ d. is_yes (tone_of E' d)) ds
       (All-weaker (λ j. E j ≡ E' j) (λ d. is_yes (tone_of E d) ≡ is_yes (tone_of E' d)) (λ d e. ap (λ (o : Outcome). is_yes (tone o.line)) e) ds h)
 
-  terms-same : (ks : List Term) → All (λ k. E k.node ≡ E' k.node) ks → terms_left E ks ≡ terms_left E' ks
+  terms-same : (ks : List Term) → AllByRecursion (λ k. E k.node ≡ E' k.node) ks → terms_left E ks ≡ terms_left E' ks
   terms-same ks h =
       map-kept-same (retarget (λ j. (E j).to)) (retarget (λ j. (E' j).to)) (λ k. is_neither (tone_of E k.node)) (λ k. is_neither (tone_of E' k.node)) ks
       (All-weaker (λ k. E k.node ≡ E' k.node)
       (λ k. (is_neither (tone_of E k.node) ≡ is_neither (tone_of E' k.node)) × (retarget (λ j. (E j).to) k ≡ retarget (λ j. (E' j).to) k))
       (λ k e. (ap (λ (o : Outcome). is_neither (tone o.line)) e, λ i. record { coefficient = k.coefficient; node = (e i).to })) ks h)
 
-  yes-part-same : (ks : List Term) → All (λ k. E k.node ≡ E' k.node) ks → yes_part E ks ≡ yes_part E' ks
+  yes-part-same : (ks : List Term) → AllByRecursion (λ k. E k.node ≡ E' k.node) ks → yes_part E ks ≡ yes_part E' ks
   yes-part-same ks h =
       ap coefficients (kept_same (λ k. is_yes (tone_of E k.node)) (λ k. is_yes (tone_of E' k.node)) ks
       (All-weaker (λ k. E k.node ≡ E' k.node) (λ k. is_yes (tone_of E k.node) ≡ is_yes (tone_of E' k.node))
       (λ k e. ap (λ (o : Outcome). is_yes (tone o.line)) e) ks h))
 
-  became-same : (n : ℕ) (l : Line) → All (λ j. E j ≡ E' j) (parts l) → became n E l ≡ became n E' l
+  became-same : (n : ℕ) (l : Line) → AllByRecursion (λ j. E j ≡ E' j) (parts l) → became n E l ≡ became n E' l
   became-same n (constant σ b) h = refl
   became-same n (both σ i j) h = ap₂ (λ (a b : Outcome). both_outcome n σ (tone a.line) (tone b.line) a b) h.0 h.1.0
   became-same n (non σ i) h = ap (λ (a : Outcome). own n (non_line σ (tone a.line) a.to)) h.0
@@ -62,14 +62,14 @@ wants (sum t ks) = state
 
 -- the parts of every line stand before it
 abbrev pub Ordered : List Line → Type 0
-Ordered ls = (i : ℕ) → i < length ls → All (λ j. j < i) (parts (line_at ls i))
+Ordered ls = (i : ℕ) → i < length ls → AllByRecursion (λ j. j < i) (parts (line_at ls i))
 
 abbrev pub outcome : List Line → ℕ → Outcome
 outcome ls j = get_or (outcomes ls) j blank
 
 pub outcome-at : (ls : List Line) → Ordered ls → (i : ℕ) → i < length ls → outcome ls i ≡ became i (outcome ls) (line_at ls i)
 outcome-at ls o i h =
-    grown-at blank became (λ n l. All (λ j. j < n) (parts l))
+    grown-at blank became (λ n l. AllByRecursion (λ j. j < n) (parts l))
     (λ n T T' l same b. became-same T T' n l (All-weaker (λ j. j < n) (λ j. T j ≡ T' j) same (parts l) b))
     (constant state true) [] ls i i (omega arith) h (o i h)
 
@@ -143,11 +143,11 @@ module _ (n : ℕ) (E : ℕ → Outcome) where
 
 -- what is left of the parts
 module _ (E : ℕ → Outcome) where
-  left-all : (P : ℕ → Type 0) (ds : List ℕ) → All (λ d. P (E d).to) ds → All P (alternatives_left E ds)
+  left-all : (P : ℕ → Type 0) (ds : List ℕ) → AllByRecursion (λ d. P (E d).to) ds → AllByRecursion P (alternatives_left E ds)
   left-all P ds h =
       All-map P (λ d. (E d).to) (filter (λ d. not (is_no (tone_of E d))) ds) (all_kept_by (λ d. not (is_no (tone_of E d))) (λ d. P (E d).to) ds h)
 
-  pub shrunk-parts : (P : ℕ → Type 0) (l : Line) → All (λ j. P (E j).to) (parts l) → All P (parts (shrunk E l))
+  pub shrunk-parts : (P : ℕ → Type 0) (l : Line) → AllByRecursion (λ j. P (E j).to) (parts l) → AllByRecursion P (parts (shrunk E l))
   shrunk-parts P (constant σ b) h = tt
   shrunk-parts P (both σ i j) h = h
   shrunk-parts P (non σ i) h = h
@@ -179,12 +179,12 @@ module _ (E : ℕ → Outcome) where
   pub record Placed (n : ℕ) (o : Outcome) : Type 0 where
     pub near : o.to ≤ n
     pub stable : E o.to ≡ o
-    pub below : All (λ j. j < o.to) (parts o.line)
+    pub below : AllByRecursion (λ j. j < o.to) (parts o.line)
 
   later : (i n : ℕ) (o : Outcome) → i < n → Placed i o → Placed n o
   later i n o h p = record { near = omega (arith, p.near); stable = p.stable; below = p.below }
 
-  turn-placed : (n : ℕ) (l : Line) (o : Outcome) → Turn n E l o → All (λ j. j < n) (parts l) → ((j : ℕ) → j < n → Placed j (E j)) → E n ≡ o → Placed n o
+  turn-placed : (n : ℕ) (l : Line) (o : Outcome) → Turn n E l o → AllByRecursion (λ j. j < n) (parts l) → ((j : ℕ) → j < n → Placed j (E j)) → E n ≡ o → Placed n o
   turn-placed n l o (settled b) h f e = record { near = omega arith; stable = e; below = tt }
   turn-placed n l o (first {i = i}) h f e = later i n (E i) h.0 (f i h.0)
   turn-placed n l o (second {j = j}) h f e = later j n (E j) h.1.0 (f j h.1.0)
@@ -222,5 +222,5 @@ lines_get ls i = get_or-map (λ (x : Outcome). x.line) (outcomes ls) i blank
 pub lines-ordered : (ls : List Line) → Ordered ls → Ordered (lines_of ls)
 lines-ordered ls o i h =
     let p = placed ls o i (omega (arith, lines-length ls)) in
-    subst (λ (l : Line). All (λ j. j < i) (parts l)) (sym (lines_get ls i))
+    subst (λ (l : Line). AllByRecursion (λ j. j < i) (parts l)) (sym (lines_get ls i))
     (All-weaker (λ j. j < (outcome ls i).to) (λ j. j < i) (λ j k. omega (arith, p.near)) (parts (outcome ls i).line) p.below)

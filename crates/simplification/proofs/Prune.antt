@@ -1,7 +1,7 @@
 -- What the root does not reach is dropped, the rest is renumbered.
 use Rattle.std.proofs.Common.{◌≡◌, ℕ, zero, suc, ◌+◌, ◌-◌, ◌<◌, ◌≤◌, Bool, true, false, cond, ◌||◌, eqb, ◌⊎◌, List, [], ◌∷◌, ◌++◌, map, length, sym, refl, ap, ◌∙◌, subst, ap₂, inl, inr, le_of_suc-le-suc, not-suc-le-zero, suc-add, arith}
 use mathlib.Core.Bool.{or-true, false≢true}
-use Rattle.std.specs.List.{AllByRecursion as All}
+use Rattle.std.specs.List.{AllByRecursion}
 use Rattle.std.proofs.ByRecursion.{All-weaker, All-append, All-map}
 use Rattle.std.proofs.lemmas.Bool.{eq-eqb, ne_eqb, eqb-true, cases_lt}
 use Rattle.formulas.specs.Lines.{Line, constant, both, non, step, sum, sort, Formula}
@@ -22,7 +22,7 @@ member-append j (x ∷ xs) ys = go (eqb x j) (member-append j xs ys)
 pub member_back : (j : ℕ) (xs ys : List ℕ) → member j ys ≡ true → member j (xs ++ ys) ≡ true
 member_back j xs ys h = member-append j xs ys ∙ (ap (λ (b : Bool). member j xs || b) h ∙ or-true (member j xs))
 
-member-front : (xs ys : List ℕ) → All (λ j. member j (xs ++ ys) ≡ true) xs
+member-front : (xs ys : List ℕ) → AllByRecursion (λ j. member j (xs ++ ys) ≡ true) xs
 member-front [] ys = tt
 member-front (x ∷ xs) ys = (
   ap (λ (b : Bool). b || member x (xs ++ ys)) (eq-eqb x x refl),
@@ -30,11 +30,11 @@ member-front (x ∷ xs) ys = (
       (λ j h. ap (λ (b : Bool). eqb x j || b) h ∙ or-true (eqb x j)) xs (member-front xs ys),
 )
 
-member-above : (m : ℕ) (xs : List ℕ) → All (λ j. j < m) xs → member m xs ≡ false
+member-above : (m : ℕ) (xs : List ℕ) → AllByRecursion (λ j. j < m) xs → member m xs ≡ false
 member-above m [] h = refl
 member-above m (x ∷ xs) h = ap₂ ◌||◌ (ne_eqb x m (λ e. omega (arith, h.0))) (member-above m xs h.1)
 
-pub member_get : (P : ℕ → Type 0) (xs : List ℕ) (j : ℕ) → All P xs → member j xs ≡ true → P j
+pub member_get : (P : ℕ → Type 0) (xs : List ℕ) (j : ℕ) → AllByRecursion P xs → member j xs ≡ true → P j
 member_get P [] j h e = absurd (false≢true e)
 member_get P (x ∷ xs) j h e = go (eqb x j) refl e (member_get P xs j h.1)
   where
@@ -51,8 +51,8 @@ reached_grows i (l ∷ ls) r j h = go (member i (reached (suc i) ls r)) (reached
     go true g = member_back j (parts l) (reached (suc i) ls r) g
     go false g = g
 
-reached-closed : (i : ℕ) (ls : List Line) (r : List ℕ) → ((k n : ℕ) → n ≡ i + k → k < length ls → All (λ j. j < n) (parts (line_at ls k)))
-    → (k n : ℕ) → n ≡ i + k → k < length ls → member n (reached i ls r) ≡ true → All (λ j. member j (reached i ls r) ≡ true) (parts (line_at ls k))
+reached-closed : (i : ℕ) (ls : List Line) (r : List ℕ) → ((k n : ℕ) → n ≡ i + k → k < length ls → AllByRecursion (λ j. j < n) (parts (line_at ls k)))
+    → (k n : ℕ) → n ≡ i + k → k < length ls → member n (reached i ls r) ≡ true → AllByRecursion (λ j. member j (reached i ls r) ≡ true) (parts (line_at ls k))
 reached-closed i [] r o k n s g h = absurd (not-suc-le-zero g)
 reached-closed i (l ∷ ls) r o k n s g h =
     go k s g (member i later) refl h (reached-closed (suc i) ls r (λ k n s g. o (suc k) n (omega arith) (omega arith)))
@@ -72,8 +72,8 @@ reached-closed i (l ∷ ls) r o k n s g h =
     wider false j q = q
 
     go : (k : ℕ) → n ≡ i + k → k < length (l ∷ ls) → (b : Bool) → member i later ≡ b → member n (cond b (parts l ++ later) later) ≡ true
-        → ((k n : ℕ) → n ≡ suc i + k → k < length ls → member n later ≡ true → All (λ j. member j later ≡ true) (parts (line_at ls k)))
-        → All (λ j. member j (cond b (parts l ++ later) later) ≡ true) (parts (line_at (l ∷ ls) k))
+        → ((k n : ℕ) → n ≡ suc i + k → k < length ls → member n later ≡ true → AllByRecursion (λ j. member j later ≡ true) (parts (line_at ls k)))
+        → AllByRecursion (λ j. member j (cond b (parts l ++ later) later) ≡ true) (parts (line_at (l ∷ ls) k))
     go zero s g true q h rec = member-front (parts l) later
     go zero s g false q h rec =
         let z : n ≡ i = omega arith in
@@ -83,8 +83,8 @@ reached-closed i (l ∷ ls) r o k n s g h =
         (rec k n (omega arith) (le_of_suc-le-suc g) (away b h))
 
 -- what holds of the root, and goes over from lines to their parts, holds of all that is reached
-reached-only : (P : ℕ → Type 0) (i : ℕ) (ls : List Line) (r : List ℕ) → All P r
-    → ((k n : ℕ) → n ≡ i + k → k < length ls → P n → All P (parts (line_at ls k))) → All P (reached i ls r)
+reached-only : (P : ℕ → Type 0) (i : ℕ) (ls : List Line) (r : List ℕ) → AllByRecursion P r
+    → ((k n : ℕ) → n ≡ i + k → k < length ls → P n → AllByRecursion P (parts (line_at ls k))) → AllByRecursion P (reached i ls r)
 reached-only P i [] r h g = h
 reached-only P i (l ∷ ls) r h g =
     go (member i later) refl (reached-only P (suc i) ls r h (λ k n s u. g (suc k) n (omega arith) (omega arith)))
@@ -92,11 +92,11 @@ reached-only P i (l ∷ ls) r h g =
     later : List ℕ
     later = reached (suc i) ls r
 
-    go : (b : Bool) → member i later ≡ b → All P later → All P (cond b (parts l ++ later) later)
+    go : (b : Bool) → member i later ≡ b → AllByRecursion P later → AllByRecursion P (cond b (parts l ++ later) later)
     go true q a = All-append P (parts l) later (g 0 i (omega arith) (omega arith) (member_get P later i a q)) a
     go false q a = a
 
-pub kept-only : (P : ℕ → Type 0) (F : Formula) → P F.root → ((i : ℕ) → i < length F.lines → P i → All P (parts (line_at F.lines i)))
+pub kept-only : (P : ℕ → Type 0) (F : Formula) → P F.root → ((i : ℕ) → i < length F.lines → P i → AllByRecursion P (parts (line_at F.lines i)))
     → (i : ℕ) → kept F i ≡ true → P i
 kept-only P F h g i k =
     member_get P (reached 0 F.lines (F.root ∷ [])) i
@@ -174,7 +174,7 @@ module _ (keep : ℕ → Bool) where
         go false p m r rec = rec m (omega (arith, rank-no k p))
 
 module _ (f : ℕ → ℕ) where
-  pub renumber-parts : (P : ℕ → Type 0) (l : Line) → All (λ j. P (f j)) (parts l) → All P (parts (renumber f l))
+  pub renumber-parts : (P : ℕ → Type 0) (l : Line) → AllByRecursion (λ j. P (f j)) (parts l) → AllByRecursion P (parts (renumber f l))
   renumber-parts P (constant σ b) h = h
   renumber-parts P (both σ i j) h = h
   renumber-parts P (non σ i) h = h
@@ -224,8 +224,8 @@ module _ (F : Formula) where
 
   module _ (o : Ordered F.lines) where
     -- the parts of a line that is kept are kept, and stand before it
-    pub kept-parts : (i : ℕ) → i < length F.lines → kept F i ≡ true → All (λ j. (kept F j ≡ true) × (j < i)) (parts (line_at F.lines i))
+    pub kept-parts : (i : ℕ) → i < length F.lines → kept F i ≡ true → AllByRecursion (λ j. (kept F j ≡ true) × (j < i)) (parts (line_at F.lines i))
     kept-parts i h k =
         all_both (λ j. kept F j ≡ true) (λ j. j < i) (parts (line_at F.lines i))
-        (reached-closed 0 F.lines (F.root ∷ []) (λ k n s g. let q : k ≡ n = omega arith in subst (λ (x : ℕ). All (λ j. j < x) (parts (line_at F.lines k))) q (o k g)) i i (omega arith) h k)
+        (reached-closed 0 F.lines (F.root ∷ []) (λ k n s g. let q : k ≡ n = omega arith in subst (λ (x : ℕ). AllByRecursion (λ j. j < x) (parts (line_at F.lines k))) q (o k g)) i i (omega arith) h k)
         (o i h)

@@ -1,6 +1,6 @@
 -- Lists with some entries put in the place of others.
 use Rattle.std.proofs.Common.{◌≡◌, ℕ, ◌+◌, ◌-◌, ◌<◌, ◌≤◌, Bool, true, false, cond, List, [], ◌∷◌, ◌++◌, map, length, get_or, take, drop, set, replicate, filter, sym, refl, ap, ◌∙◌, subst, ap₂, add-zero, arith}
-use Rattle.std.specs.List.{AllByRecursion as All}
+use Rattle.std.specs.List.{AllByRecursion}
 use Rattle.std.proofs.lemmas.List.{append_assoc, append-nil, map-append, length-append, length-map, length_push, length-take-le, length-drop, length-replicate, replicate_more, take-append-drop, take_at, drop_at, drop-drop, drop_all, drop_more, take_more, set_at, get_or-drop, get_or-take}
 use Rattle.std.proofs.lemmas.List.Elements.{filter-append}
 use Rattle.std.proofs.ByRecursion.{All-get_or}
@@ -153,7 +153,7 @@ module _ {X : Type 0} (f : X → Bool) (g : X → X) (xs : List X) (p s : ℕ) w
     pub moving-read : (d : X) → get_or ys (p + n) d ≡ get_or xs (p + n) d
     moving-read d = ap (λ l. get_or l (p + n) d) m.is ∙ getD-put s (p + n) (map g (filter f (part xs p n))) xs d (omega arith) (omega (arith, few))
 
-    pub moving-at : (P : X → Type 0) (d : X) (count : ℕ) → p + count ≤ length xs → n < count → All P (part xs p count) → P (get_or ys (p + n) d)
+    pub moving-at : (P : X → Type 0) (d : X) (count : ℕ) → p + count ≤ length xs → n < count → AllByRecursion P (part xs p count) → P (get_or ys (p + n) d)
     moving-at P d count l b a =
         subst P (part_at xs p count n d b ∙ sym (moving-read d)) (All-get_or P (part xs p count) n d (omega (arith, length_part xs p count l)) a)
 

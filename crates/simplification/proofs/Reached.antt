@@ -1,7 +1,7 @@
 -- The lines that are kept are those that the root reaches.
 use Rattle.std.proofs.Common.{◌≡◌, ℕ, ◌<◌, Bool, true, ◌||◌, eqb, List, [], ◌∷◌, refl, ap, ◌∙◌}
 use mathlib.Core.Bool.{or-true}
-use Rattle.std.specs.List.{AllByRecursion as All}
+use Rattle.std.specs.List.{AllByRecursion}
 use Rattle.std.proofs.lemmas.Bool.{eq-eqb}
 use Rattle.formulas.specs.Lines.{Formula}
 use Rattle.formulas.specs.WellFormed.{line_at}
@@ -11,7 +11,7 @@ use Rattle.simplification.proofs.Outcomes.{Ordered}
 use Rattle.simplification.proofs.Prune.{member_get, kept-only, kept-root, kept-parts}
 use Rattle.simplification.proofs.Forms.{fitting_ordered}
 
-all_members : (P : ℕ → Type 0) (xs : List ℕ) → ((j : ℕ) → member j xs ≡ true → P j) → All P xs
+all_members : (P : ℕ → Type 0) (xs : List ℕ) → ((j : ℕ) → member j xs ≡ true → P j) → AllByRecursion P xs
 all_members P [] f = tt
 all_members P (x ∷ xs) f = (
   f x (ap (λ (b : Bool). b || member x xs) (eq-eqb x x refl)),

@@ -1,6 +1,6 @@
 -- Without move alternatives, a simplified formula is one line, yes or no.
 use Rattle.std.proofs.Common.{◌≡◌, ℕ, ◌-◌, ◌<◌, ◌≤◌, Bool, true, false, cond, not, ◌||◌, ◌⊎◌, List, [], ◌∷◌, ◌++◌, map, length, filter, sym, refl, ap, ◌∙◌, subst, inl, inr, true≢false, arith}
-use Rattle.std.specs.List.{AllByRecursion as All}
+use Rattle.std.specs.List.{AllByRecursion}
 use Rattle.std.proofs.ByRecursion.{All-weaker}
 use Rattle.std.proofs.lemmas.Bool.{cases_lt}
 use Rattle.formulas.specs.declared.node.Term.{Term}
@@ -21,7 +21,7 @@ Const neither = ⊥
 -- a line without move alternatives, all of whose parts are constant, is constant
 module _ (E : ℕ → Outcome) where
   abbrev Live : Line → Type 0
-  Live l = moving l ≡ false → All (λ j. Const (tone_of E j)) (parts l) → Const (tone l)
+  Live l = moving l ≡ false → AllByRecursion (λ j. Const (tone_of E j)) (parts l) → Const (tone l)
 
   abbrev Open : ℕ → Type 0
   Open j = Const (tone_of E j) → ⊥
@@ -33,42 +33,42 @@ module _ (E : ℕ → Outcome) where
   back j s c = subst (λ (x : Outcome). Const (tone x.line)) s c
 
   -- what is left of a step's here alternatives and of a sum's terms is neither yes nor no
-  left_open : (ds : List ℕ) → All Stable ds → has_yes E ds ≡ false → All Open (alternatives_left E ds)
+  left_open : (ds : List ℕ) → AllByRecursion Stable ds → has_yes E ds ≡ false → AllByRecursion Open (alternatives_left E ds)
   left_open [] h e = tt
   left_open (d ∷ ds) h e = go (tone_of E d) (back d h.0) e (left_open ds h.1)
     where
       rest : List ℕ
       rest = filter (λ d. not (is_no (tone_of E d))) ds
 
-      go : (o : Tone) → (Const (tone_of E (E d).to) → Const o) → (is_yes o || has_yes E ds) ≡ false → (has_yes E ds ≡ false → All Open (map (λ d. (E d).to) rest))
-          → All Open (map (λ d. (E d).to) (cond (not (is_no o)) (d ∷ rest) rest))
+      go : (o : Tone) → (Const (tone_of E (E d).to) → Const o) → (is_yes o || has_yes E ds) ≡ false → (has_yes E ds ≡ false → AllByRecursion Open (map (λ d. (E d).to) rest))
+          → AllByRecursion Open (map (λ d. (E d).to) (cond (not (is_no o)) (d ∷ rest) rest))
       go yes f e r = absurd (true≢false e)
       go no f e r = r e
       go neither f e r = (f, r e)
 
-  terms-open : (ks : List Term) → All Stable (map (λ k. k.node) ks) → All Open (map (λ k. k.node) (terms_left E ks))
+  terms-open : (ks : List Term) → AllByRecursion Stable (map (λ k. k.node) ks) → AllByRecursion Open (map (λ k. k.node) (terms_left E ks))
   terms-open [] h = tt
   terms-open (k ∷ ks) h = go (tone_of E k.node) (back k.node h.0) (terms-open ks h.1)
     where
       rest : List Term
       rest = filter (λ k. is_neither (tone_of E k.node)) ks
 
-      go : (o : Tone) → (Const (tone_of E (E k.node).to) → Const o) → All Open (map (λ k. k.node) (map (retarget (λ j. (E j).to)) rest))
-          → All Open (map (λ k. k.node) (map (retarget (λ j. (E j).to)) (cond (is_neither o) (k ∷ rest) rest)))
+      go : (o : Tone) → (Const (tone_of E (E k.node).to) → Const o) → AllByRecursion Open (map (λ k. k.node) (map (retarget (λ j. (E j).to)) rest))
+          → AllByRecursion Open (map (λ k. k.node) (map (retarget (λ j. (E j).to)) (cond (is_neither o) (k ∷ rest) rest)))
       go yes f r = r
       go no f r = r
       go neither f r = (f, r)
 
-  step-live : (a : ℕ) (ms hs : List ℕ) → (ms ++ hs ≡ [] → ⊥) → All Open hs → Live (step a ms hs)
+  step-live : (a : ℕ) (ms hs : List ℕ) → (ms ++ hs ≡ [] → ⊥) → AllByRecursion Open hs → Live (step a ms hs)
   step-live a [] [] s o q c = s refl
   step-live a [] (x ∷ hs) s o q c = o.0 c.0
   step-live a (m ∷ ms) hs s o q c = absurd (true≢false q)
 
-  sum-live : (t : ℕ) (ks : List Term) → (t ≡ 0 → ⊥) → t ≤ coefficients ks → All Open (map (λ k. k.node) ks) → Live (sum t ks)
+  sum-live : (t : ℕ) (ks : List Term) → (t ≡ 0 → ⊥) → t ≤ coefficients ks → AllByRecursion Open (map (λ k. k.node) ks) → Live (sum t ks)
   sum-live t [] z e o q c = z (omega arith)
   sum-live t (k ∷ ks) z e o q c = o.0 c.0
 
-  stays-live : (l : Line) → Stays E l → All Stable (parts l) → Live (shrunk E l)
+  stays-live : (l : Line) → Stays E l → AllByRecursion Stable (parts l) → Live (shrunk E l)
   stays-live (constant σ b) s h q c = absurd s
   stays-live (both σ i j) s h q c = subst Const s (back i h.0 c.0)
   stays-live (non σ i) s h q c = subst Const s (back i h.0 c.0)
@@ -76,7 +76,7 @@ module _ (E : ℕ → Outcome) where
       step-live a (alternatives_left E ms) (alternatives_left E hs) s.1 (left_open hs (all_back Stable ms hs h) s.0) q c
   stays-live (sum t ks) s h q c = sum-live (t - _) (terms_left E ks) s.0 s.1 (terms-open ks h) q c
 
-  turn-live : (n : ℕ) (l : Line) (x : Outcome) → Turn n E l x → All (λ j. Live (E j).line) (parts l) → All Stable (parts l) → Live x.line
+  turn-live : (n : ℕ) (l : Line) (x : Outcome) → Turn n E l x → AllByRecursion (λ j. Live (E j).line) (parts l) → AllByRecursion Stable (parts l) → Live x.line
   turn-live n l x (settled true) h s q c = tt
   turn-live n l x (settled false) h s q c = tt
   turn-live n l x first h s q c = h.0 q c
@@ -107,7 +107,7 @@ one_line (x ∷ (y ∷ ys)) l h e = absurd (omega arith)
 prune-alone : (F : Formula) (b : Bool) → F.root < length F.lines → line_at F.lines F.root ≡ constant state b → prune F ≡ only b
 prune-alone F b h e =
     let alone : (i : ℕ) → kept F i ≡ true → i ≡ F.root =
-    kept-only (λ i. i ≡ F.root) F refl (λ i k q. subst (λ (l : Line). All (λ j. j ≡ F.root) (parts l)) (sym (ap (line_at F.lines) q ∙ e)) tt) in
+    kept-only (λ i. i ≡ F.root) F refl (λ i k q. subst (λ (l : Line). AllByRecursion (λ j. j ≡ F.root) (parts l)) (sym (ap (line_at F.lines) q ∙ e)) tt) in
     let lowest : place F F.root ≡ 0 = go (cases_lt 0 (place F F.root)) alone in
     let long : length (prune F).lines ≡ 1 = last (cases_lt 1 (length (prune F).lines)) alone lowest in
     let line : line_at (prune F).lines 0 ≡ constant state b =
@@ -144,7 +144,7 @@ settles F w still =
     let e : l ≡ (outcome ls n).line = lines_get ls n in
     let m : moving l ≡ false =
     sym (moving-renumber (place G) l) ∙ (ap moving (sym (pruned-get G n h k)) ∙ still (place G n) (place-within G n h k)) in
-    let p : All (λ j. Const (tone_of (outcome ls) j)) (parts l) =
+    let p : AllByRecursion (λ j. Const (tone_of (outcome ls) j)) (parts l) =
     All-weaker (λ j. (kept G j ≡ true) × (j < n)) (λ j. Const (tone_of (outcome ls) j)) (λ j x. f j x.1 (omega (arith, x.1)) x.0) (parts l)
     (kept-parts G (lines-ordered ls o) n h k) in
     subst (λ (x : Line). Const (tone x)) e (subst (Live (outcome ls)) (sym e) (lives ls o n (omega (arith, lines-length ls))) m p)) in

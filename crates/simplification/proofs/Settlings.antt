@@ -1,6 +1,6 @@
 -- The first pass, node after node.
 use Rattle.std.proofs.Common.{◌≡◌, ℕ, ◌+◌, ◌<◌, ◌≤◌, true, List, [], ◌∷◌, ◌++◌, map, length, get_or, take, drop, set, sym, refl, ap, ◌∙◌, subst, ap₂, arith}
-use Rattle.std.specs.List.{AllByRecursion as All}
+use Rattle.std.specs.List.{AllByRecursion}
 use Rattle.std.proofs.lemmas.List.{length-map, length-take-le, get_or_append_left, get_or-map, get_or-take, take-map, take_more, take_all}
 use Rattle.std.proofs.ByRecursion.{All-weaker}
 use Rattle.formulas.specs.Lines.{state, Line, constant, line}
@@ -132,7 +132,7 @@ module _ (s₀ : Slots) (P : Packed s₀) (to₀ : List ℕ) (room : length s₀
             ∙ (ap (λ n. tone (line [] [] n)) found ∙ (tone-of_node t' a' (line_at left p) ∙ ap tone there));
       }
 
-  all_alike : All (Alike (glance s.nodes to) O) (parts l)
+  all_alike : AllByRecursion (Alike (glance s.nodes to) O) (parts l)
   all_alike = All-weaker (λ j. j < i) (Alike (glance s.nodes to) O) alike (parts l) (o i h)
 
   next : take (i + 1) (left_lines ls) ≡ left ++ (leaves O l ∷ [])

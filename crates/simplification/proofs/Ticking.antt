@@ -1,6 +1,6 @@
 -- Ticks: those asked for, and what the root reaches.
 use Rattle.std.proofs.Common.{◌≡◌, ℕ, ◌+◌, ◌<◌, ◌≤◌, Bool, true, false, cond, ◌||◌, eqb, ◌⊎◌, List, [], ◌∷◌, ◌++◌, length, get_or, drop, set, sym, refl, ap, ◌∙◌, inl, inr, arith, length-set}
-use Rattle.std.specs.List.{AllByRecursion as All}
+use Rattle.std.specs.List.{AllByRecursion}
 use Rattle.std.proofs.lemmas.List.{get_or-set_same, get_or-set_other, drop_all}
 use Rattle.std.proofs.ByRecursion.{All-weaker}
 use Rattle.std.proofs.lemmas.Bool.{eq-eqb, ne_eqb, cases_eq}
@@ -25,7 +25,7 @@ tick_one m k j b h = go b (cases_eq j k)
     go true (inr e) = ap (λ (x : Bool). cond (x || true) 1 (get_or m j 0)) (sym (ne_eqb k j (λ z. e (sym z))))
     go false (inr e) = get_or-set_other m k j 1 0 e ∙ ap (λ (x : Bool). cond (x || false) 1 (get_or m j 0)) (sym (ne_eqb k j (λ z. e (sym z))))
 
-ticked-at : (m ks : List ℕ) (j : ℕ) → All (λ k. k < length m) ks → get_or (ticked m ks) j 0 ≡ cond (member j ks) 1 (get_or m j 0)
+ticked-at : (m ks : List ℕ) (j : ℕ) → AllByRecursion (λ k. k < length m) ks → get_or (ticked m ks) j 0 ≡ cond (member j ks) 1 (get_or m j 0)
 ticked-at m [] j h = refl
 ticked-at m (k ∷ ks) j h =
     ticked-at (set m k 1) ks j (All-weaker (λ x. x < length m) (λ x. x < length (set m k 1)) (λ x l. omega (arith, length-set m k 1)) ks h.1)
@@ -40,7 +40,7 @@ module _ (ls : List Line) (r : List ℕ) (i : ℕ) (h : i < length ls) where
   abbrev later : List ℕ
   later = reached (i + 1) (drop (i + 1) ls) r
 
-  pub ticks-turn : (m m' : List ℕ) → length ls ≡ length m → All (λ d. d < length m) (parts (line_at ls i)) → Ticks m later
+  pub ticks-turn : (m m' : List ℕ) → length ls ≡ length m → AllByRecursion (λ d. d < length m) (parts (line_at ls i)) → Ticks m later
       → m' ≡ cond (eqb (get_or m i 0) 1) (ticked m (parts (line_at ls i))) m → Ticks m' (reached i (drop i ls) r)
   ticks-turn m m' s a k e = go (member i later) refl
     where

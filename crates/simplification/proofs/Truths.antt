@@ -2,7 +2,7 @@
 use Rattle.std.proofs.Common.{◌≡◌, ℕ, ◌+◌, ◌-◌, ◌*◌, ◌<◌, ◌≤◌, Bool, true, false, cond, not, ◌&&◌, ◌||◌, eqb, ltb, leb, ◌⊎◌, List, [], ◌∷◌, map, filter, sym, refl, ap, ◌∙◌, subst, ap₂, inl, inr, mul-le-mul_right, mul-le-mul_left, arith}
 use mathlib.Core.Path.{fun_ext}
 use mathlib.Core.Bool.{or-true, and-true, and-false}
-use Rattle.std.specs.List.{AllByRecursion as All}
+use Rattle.std.specs.List.{AllByRecursion}
 use Rattle.std.proofs.ByRecursion.{All-weaker}
 use Rattle.std.proofs.lemmas.List.Sums.{sum_by-cons}
 use Rattle.std.proofs.lemmas.Bool.{le-leb, lt-leb, cases_lt, eqb-true, ltb-true}
@@ -81,18 +81,18 @@ total-le M at mv w (k ∷ ks) =
 
 -- a renumbered line agrees if its parts do
 module _ (S : Meaning) (g : Weighed S) (T U : ℕ → Truth) (f : ℕ → ℕ) where
-  moved-any : (mv : Move) → Whole S mv → (ds : List ℕ) → All (λ j. Agree S dist (T j) (U (f j))) ds → any (λ d. (T d).of mv) ds ≡ any (λ d. (U d).of mv) (map f ds)
+  moved-any : (mv : Move) → Whole S mv → (ds : List ℕ) → AllByRecursion (λ j. Agree S dist (T j) (U (f j))) ds → any (λ d. (T d).of mv) ds ≡ any (λ d. (U d).of mv) (map f ds)
   moved-any mv w [] h = refl
   moved-any mv w (d ∷ ds) h = ap₂ ◌||◌ (h.0 mv w) (moved-any mv w ds h.1)
 
-  moved-total : (mv : Move) (ks : List Term) → All (λ k. Agree S state (T k.node) (U (f k.node))) ks → total (λ j. (T j).at) ks mv ≡ total (λ j. (U j).at) (map (retarget f) ks) mv
+  moved-total : (mv : Move) (ks : List Term) → AllByRecursion (λ k. Agree S state (T k.node) (U (f k.node))) ks → total (λ j. (T j).at) ks mv ≡ total (λ j. (U j).at) (map (retarget f) ks) mv
   moved-total mv [] h = refl
   moved-total mv (k ∷ ks) h =
       total-cons (λ j. (T j).at) k ks mv
       ∙ (ap₂ (λ (x y : ℕ). k.coefficient * x + y) (weigh-same (T k.node).at (U (f k.node)).at h.0 mv) (moved-total mv ks h.1)
       ∙ sym (total-cons (λ j. (U j).at) (retarget f k) (map (retarget f) ks) mv))
 
-  pub renumber-agrees : (l : Line) → All (λ j. Agree S (wants l) (T j) (U (f j))) (parts l) → Agree S (sort l) (sees S T l) (sees S U (renumber f l))
+  pub renumber-agrees : (l : Line) → AllByRecursion (λ j. Agree S (wants l) (T j) (U (f j))) (parts l) → Agree S (sort l) (sees S T l) (sees S U (renumber f l))
   renumber-agrees (constant state b) h = λ s. refl
   renumber-agrees (constant dist b) h = λ mv w. refl
   renumber-agrees (both state i j) h = λ s. ap₂ ◌&&◌ (h.0 s) (h.1.0 s)
@@ -191,7 +191,7 @@ module _ (S : Meaning) (g : Weighed S) (T T' : ℕ → Truth) (E : ℕ → Outco
 
   -- a step
   module _ (mv : Move) (w : Whole S mv) where
-    left-any : (ds : List ℕ) → All (Fit dist) ds → any (λ d. (T d).of mv) ds ≡ any (λ d. (T' d).of mv) (alternatives_left E ds)
+    left-any : (ds : List ℕ) → AllByRecursion (Fit dist) ds → any (λ d. (T d).of mv) ds ≡ any (λ d. (T' d).of mv) (alternatives_left E ds)
     left-any [] h = refl
     left-any (d ∷ ds) h = go (tone_of E d) (of_part d h.0 mv w) (left-any ds h.1)
       where
@@ -204,7 +204,7 @@ module _ (S : Meaning) (g : Weighed S) (T T' : ℕ → Truth) (E : ℕ → Outco
         go no x e = ap₂ ◌||◌ x e
         go neither x e = ap₂ ◌||◌ (h.0.there mv w) e
 
-    yes-any : (ds : List ℕ) → All (Fit dist) ds → has_yes E ds ≡ true → any (λ d. (T d).of mv) ds ≡ true
+    yes-any : (ds : List ℕ) → AllByRecursion (Fit dist) ds → has_yes E ds ≡ true → any (λ d. (T d).of mv) ds ≡ true
     yes-any [] h e = e
     yes-any (d ∷ ds) h e = go (tone_of E d) (of_part d h.0 mv w) (yes-any ds h.1) e
       where
@@ -223,7 +223,7 @@ module _ (S : Meaning) (g : Weighed S) (T T' : ℕ → Truth) (E : ℕ → Outco
   step-line-at a [] (x ∷ hs) s = refl
   step-line-at a (m ∷ ms) hs s = refl
 
-  step-agrees : (a : ℕ) (ms hs : List ℕ) → All (Fit dist) ms → All (Fit dist) hs → (b : Bool) → has_yes E hs ≡ b → (s : ℕ)
+  step-agrees : (a : ℕ) (ms hs : List ℕ) → AllByRecursion (Fit dist) ms → AllByRecursion (Fit dist) hs → (b : Bool) → has_yes E hs ≡ b → (s : ℕ)
       → (sees S T (step a ms hs)).at s ≡ (sees S T' (cond b (constant state true) (step_line a (alternatives_left E ms) (alternatives_left E hs)))).at s
   step-agrees a ms hs hm hh true e s =
       ap (λ (x : Bool). any (λ mv. any (λ d. (T d).of mv) ms) (S.moves s a) || x) (yes-any (point S s) (omega arith) hs hh e)
@@ -237,7 +237,7 @@ module _ (S : Meaning) (g : Weighed S) (T T' : ℕ → Truth) (E : ℕ → Outco
 
   -- a sum
   module _ (mv : Move) (w : Whole S mv) where
-    split : (ks : List Term) → All (λ k. Fit state k.node) ks
+    split : (ks : List Term) → AllByRecursion (λ k. Fit state k.node) ks
         → total (λ j. (T j).at) ks mv ≡ yes_part E ks * S.mass + total (λ j. (T' j).at) (terms_left E ks) mv
     split [] h = omega arith
     split (k ∷ ks) h = go (tone_of E k.node) (at_part k.node h.0) (split ks h.1)
@@ -273,7 +273,7 @@ module _ (S : Meaning) (g : Weighed S) (T T' : ℕ → Truth) (E : ℕ → Outco
         (omega (arith, total-le S.mass (λ j. (T' j).at) mv w ks, mul-le-mul_right S.mass (ltb-true (coefficients ks) t f), g.heavy))
     sum-line-of t ks false false e f = refl
 
-  pub became-agrees : (n : ℕ) (l : Line) → All (Fit (wants l)) (parts l) → Agree S (sort l) (sees S T l) (sees S T' (became n E l).line)
+  pub became-agrees : (n : ℕ) (l : Line) → AllByRecursion (Fit (wants l)) (parts l) → Agree S (sort l) (sees S T l) (sees S T' (became n E l).line)
   became-agrees n (constant state b) h = λ s. refl
   became-agrees n (constant dist b) h = λ mv w. refl
   became-agrees n (both state i j) h = λ s.

@@ -1,6 +1,6 @@
 -- The laws of simplification.
 use Rattle.std.specs.Prelude.{◌≡◌, ℕ, ◌<◌, ◌≤◌, Bool, true, false, ◌⊎◌, [], ◌∷◌, length}
-use Rattle.std.specs.List.{AllByRecursion as All}
+use Rattle.std.specs.List.{AllByRecursion}
 use Rattle.systems.specs.Meaning.{Meaning, Move, Ruled, total}
 use Rattle.formulas.specs.declared.node.Fills.{Fills}
 use Rattle.formulas.specs.Lines.{state, Line, constant, both, non, step, sum, Formula}
@@ -17,7 +17,7 @@ Whole S mv = total mv ≡ S.mass
 -- what simplification asks of a system
 pub record Weighed (S : Meaning) : Type 0 where
   pub heavy : 1 ≤ S.mass
-  pub whole : (s a : ℕ) → All (Whole S) (S.moves s a)
+  pub whole : (s a : ℕ) → AllByRecursion (Whole S) (S.moves s a)
 
 abbrev pub WeighedLaw : Type 0
 WeighedLaw = (S : Meaning) → Ruled S → Weighed S
@@ -34,7 +34,7 @@ abbrev pub KeepsFormLaw : Type 0
 KeepsFormLaw = (F : Formula) → WellFormed F → WellFormed (simplify F)
 
 abbrev pub KeepsBoundsLaw : Type 0
-KeepsBoundsLaw = (m : ℕ) (F : Formula) → WellFormed F → All (Bounded m) F.lines → All (Bounded m) (simplify F).lines
+KeepsBoundsLaw = (m : ℕ) (F : Formula) → WellFormed F → AllByRecursion (Bounded m) F.lines → AllByRecursion (Bounded m) (simplify F).lines
 
 -- line j is the root, or a part of a line that the root reaches
 pub data Reach (F : Formula) : ℕ → Type 0 where

@@ -1,6 +1,6 @@
 -- Moving what is left of a node's entries down in the tables.
 use Rattle.std.specs.Prelude.{◌≡◌, ℕ, ◌+◌, ◌^◌, ◌<◌, ◌≤◌, List, [], ◌∷◌, ◌++◌, length, take, drop}
-use Rattle.std.specs.List.{AllByRecursion as All}
+use Rattle.std.specs.List.{AllByRecursion}
 use Rattle.formulas.specs.declared.node.Node.{Node}
 use Rattle.formulas.specs.declared.node.Node.TheVariants.{State, Dist}
 use Rattle.formulas.specs.declared.node.StateNode.{StateNode}
@@ -18,14 +18,14 @@ pub record FitStep (Q : ℕ → Type 0) (alts : List ℕ) (p : ℕ) (mv h : Run)
   pub next : mv.first + mv.count ≤ h.first
   pub within : h.first + h.count ≤ length alts
   pub small : length alts < 2 ^ 32
-  pub moves : All Q (entries alts mv)
-  pub heres : All Q (entries alts h)
+  pub moves : AllByRecursion Q (entries alts mv)
+  pub heres : AllByRecursion Q (entries alts h)
 
 pub record FitSum (Q : ℕ → Type 0) (ts : List Term) (p : ℕ) (r : Run) : Type 0 where
   pub past : p ≤ r.first
   pub within : r.first + r.count ≤ length ts
   pub small : length ts < 2 ^ 32
-  pub parts : All (λ k. Q k.node) (entries ts r)
+  pub parts : AllByRecursion (λ k. Q k.node) (entries ts r)
 
 abbrev pub FitState : (ℕ → Type 0) → List ℕ → ℕ → StateNode → Type 0
 FitState Q alts p sn.TheVariants.Yes = Unit {0}

@@ -1,6 +1,6 @@
 // The third pass over the tables: the nodes that are ticked move to the front, with their terms and alternatives.
 ghost use Rattle.std.specs.Prelude.{◌≡◌, ℕ, ◌+◌, ◌^◌, ◌<◌, ◌≤◌, true, map as each, length, ◌≢◌, slice_index, slice_index_or};
-ghost use Rattle.std.specs.List.{AllByRecursion as All};
+ghost use Rattle.std.specs.List.{AllByRecursion};
 ghost use Rattle.formulas.specs.Lines.{step, sum, entries, state_line, dist_line, line};
 ghost use Rattle.formulas.specs.Layout.{fills};
 ghost use Rattle.formulas.specs.Tables.{slots, laid};
@@ -19,7 +19,7 @@ fn move_alternatives(alternatives: &mut [u32], run: Run, start: u32, numbers: &[
     requires past { start ≤ run.first }
     requires within { run.first + run.count ≤ length alternatives.old }
     requires small { length alternatives.old < 2 ^ 32 }
-    requires below { All (λ d. d < length numbers.now) (entries alternatives.old run) }
+    requires below { AllByRecursion (λ d. d < length numbers.now) (entries alternatives.old run) }
     ensures end { result ≡ start + length (each (new_number numbers.now) (entries alternatives.old run)) }
     ensures moved { alternatives.new ≡ put start (each (new_number numbers.now) (entries alternatives.old run)) alternatives.old }
 {
@@ -38,7 +38,7 @@ fn move_terms(terms: &mut [Term], run: Run, start: u32, numbers: &[u32]) -> u32
     requires past { start ≤ run.first }
     requires within { run.first + run.count ≤ length terms.old }
     requires small { length terms.old < 2 ^ 32 }
-    requires below { All (λ k. k.node < length numbers.now) (entries terms.old run) }
+    requires below { AllByRecursion (λ k. k.node < length numbers.now) (entries terms.old run) }
     ensures end { result ≡ start + length (each (retarget (new_number numbers.now)) (entries terms.old run)) }
     ensures moved { terms.new ≡ put start (each (retarget (new_number numbers.now)) (entries terms.old run)) terms.old }
 {
@@ -242,7 +242,7 @@ pub(crate) fn compact(
 ) -> Fills
     requires packed { Packed (slots nodes.old terms.old alternatives.old) }
     requires room { length nodes.old ≤ length map.old }
-    requires closed { (i : ℕ) → i < length nodes.old → is_ticked map.old i ≡ true → All (λ j. is_ticked map.old j ≡ true) (parts (line_at (all_lines (slots nodes.old terms.old alternatives.old)) i)) }
+    requires closed { (i : ℕ) → i < length nodes.old → is_ticked map.old i ≡ true → AllByRecursion (λ j. is_ticked map.old j ≡ true) (parts (line_at (all_lines (slots nodes.old terms.old alternatives.old)) i)) }
     ensures tables { slots nodes.new terms.new alternatives.new ≡ laid (compacted (is_ticked map.old) (all_lines (slots nodes.old terms.old alternatives.old))) (slots nodes.old terms.old alternatives.old) }
     ensures used { result ≡ fills (compacted (is_ticked map.old) (all_lines (slots nodes.old terms.old alternatives.old))) }
     ensures numbers { (j : ℕ) → j < length nodes.old → is_ticked map.old j ≡ true → slice_index map.new j ≡ rank (is_ticked map.old) j }

@@ -1,6 +1,6 @@
 // The second pass over the tables: what the root reaches is ticked.
 ghost use Rattle.std.specs.Prelude.{◌≡◌, ℕ, ◌<◌, [], ◌∷◌, ◌++◌, map, length, if◌then◌else◌, nat_eq, slice_index, slice_index_or};
-ghost use Rattle.std.specs.List.{AllByRecursion as All};
+ghost use Rattle.std.specs.List.{AllByRecursion};
 ghost use Rattle.formulas.specs.Lines.{entries, state_line, dist_line, line};
 ghost use Rattle.formulas.specs.Tables.{slots};
 ghost use Rattle.simplification.specs.Simplify.{parts, reached};
@@ -17,7 +17,7 @@ pub(crate) const TICK: u32 = 1;
 
 // Ticks the nodes that are wanted.
 fn tick_all(wanted: &[u32], ticks: &mut [u32])
-    requires { All (λ d. d < length ticks.old) wanted.now }
+    requires { AllByRecursion (λ d. d < length ticks.old) wanted.now }
     ensures { ticks.new ≡ ticked ticks.old wanted.now }
 {
     for d in wanted {
@@ -27,7 +27,7 @@ fn tick_all(wanted: &[u32], ticks: &mut [u32])
 
 // Ticks the nodes of the terms that are wanted.
 fn tick_terms(wanted: &[Term], ticks: &mut [u32])
-    requires { All (λ k. k.node < length ticks.old) wanted.now }
+    requires { AllByRecursion (λ k. k.node < length ticks.old) wanted.now }
     ensures { ticks.new ≡ ticked ticks.old (map (λ k. k.node) wanted.now) }
 {
     for t in wanted {

@@ -1,6 +1,6 @@
 // The first pass over the tables: yes and no are worked into the nodes that use them.
 ghost use Rattle.std.specs.Prelude.{◌≡◌, ◌+◌, ◌-◌, ◌^◌, ◌<◌, ◌≤◌, [], length, if◌then◌else◌, slice_index, slice_index_or};
-ghost use Rattle.std.specs.List.{AllByRecursion as All};
+ghost use Rattle.std.specs.List.{AllByRecursion};
 ghost use Rattle.formulas.specs.Lines.{step, sum, entries, state_line, dist_line, line};
 ghost use Rattle.formulas.specs.Tables.{slots, over, laid};
 ghost use Rattle.simplification.specs.Simplify.{tone, tone_of, is_yes, is_no, is_neither, became, coefficients, alternatives_left, has_yes, terms_left, yes_part};
@@ -73,7 +73,7 @@ fn is_open(seen: Seen) -> bool
 
 // Whether one of the alternatives is yes.
 fn some_yes(alternatives: &[u32], nodes: &[Node], map: &[u32]) -> bool
-    requires { All (Led nodes.now map.now) alternatives.now }
+    requires { AllByRecursion (Led nodes.now map.now) alternatives.now }
     ensures { result ≡ has_yes (glance nodes.now map.now) alternatives.now }
 {
     for d in alternatives {
@@ -95,7 +95,7 @@ fn keep_alternatives(
     requires past { start ≤ run.first }
     requires within { run.first + run.count ≤ length alternatives.old }
     requires small { length alternatives.old < 2 ^ 32 }
-    requires led { All (Led nodes.now map.now) (entries alternatives.old run) }
+    requires led { AllByRecursion (Led nodes.now map.now) (entries alternatives.old run) }
     ensures end { result ≡ start + length (alternatives_left (glance nodes.now map.now) (entries alternatives.old run)) }
     ensures moved { alternatives.new ≡ put start (alternatives_left (glance nodes.now map.now) (entries alternatives.old run)) alternatives.old }
 {
@@ -139,7 +139,7 @@ fn weigh_term(rest: Rest, coefficient: u64, seen: Seen) -> Rest
 
 // What a sum of these terms is left with: no terms go, and yes terms lower the threshold.
 fn weigh(terms: &[Term], threshold: u64, nodes: &[Node], map: &[u32]) -> Rest
-    requires { All (λ k. Led nodes.now map.now k.node) terms.now }
+    requires { AllByRecursion (λ k. Led nodes.now map.now k.node) terms.now }
     ensures threshold { result.threshold ≡ threshold - yes_part (glance nodes.now map.now) terms.now }
     ensures lack { result.lack ≡ result.threshold - coefficients (terms_left (glance nodes.now map.now) terms.now) }
 {
@@ -158,7 +158,7 @@ fn keep_terms(terms: &mut [Term], run: Run, start: u32, nodes: &[Node], map: &[u
     requires past { start ≤ run.first }
     requires within { run.first + run.count ≤ length terms.old }
     requires small { length terms.old < 2 ^ 32 }
-    requires led { All (λ k. Led nodes.now map.now k.node) (entries terms.old run) }
+    requires led { AllByRecursion (λ k. Led nodes.now map.now k.node) (entries terms.old run) }
     ensures end { result ≡ start + length (terms_left (glance nodes.now map.now) (entries terms.old run)) }
     ensures moved { terms.new ≡ put start (terms_left (glance nodes.now map.now) (entries terms.old run)) terms.old }
 {

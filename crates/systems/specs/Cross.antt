@@ -8,7 +8,7 @@ use Rattle.std.proofs.lemmas.List.{get_or_append_left, get_or-append_right, get_
 use Rattle.std.proofs.lemmas.Bool.{cases_lt}
 use Rattle.std.proofs.ByRecursion.{All-append, All-map, All-weaker}
 use Rattle.std.proofs.lemmas.List.Sums.{sum_by-cons, sum_by-append}
-use Rattle.std.specs.List.{AllByRecursion as All}
+use Rattle.std.specs.List.{AllByRecursion}
 use Rattle.systems.specs.Piles.{cross}
 
 -- a product with something below it has no factor 0
@@ -36,7 +36,7 @@ module _ {X Y Z : Type 0} (f : X → Y → Z) where
           let pos : 0 < length ys = pos_right (suc (length xs)) (length ys) i h in
           get_or-append_right (map (f x) ys) (cross f xs ys) (length ys) i dz (length-map ys (f x)) g ∙ ih (omega (arith, suc-mul (length xs) (length ys))) ∙ rw (div-eq-sub-div pos g, mod-eq-sub-mod g, add-one) refl
 
-  pub all_cross : (P : X → Type 0) (Q : Y → Type 0) (R : Z → Type 0) → ((x : X) (y : Y) → P x → Q y → R (f x y)) → (xs : List X) (ys : List Y) → All P xs → All Q ys → All R (cross f xs ys)
+  pub all_cross : (P : X → Type 0) (Q : Y → Type 0) (R : Z → Type 0) → ((x : X) (y : Y) → P x → Q y → R (f x y)) → (xs : List X) (ys : List Y) → AllByRecursion P xs → AllByRecursion Q ys → AllByRecursion R (cross f xs ys)
   unfolding cross
   all_cross P Q R each [] ys p q = tt
   all_cross P Q R each (x ∷ xs) ys p q =

@@ -2,7 +2,7 @@
 use Rattle.std.specs.Prelude.{◌≡◌, ℕ, ◌+◌, ◌/◌, ◌%◌, ◌<◌, ◌≤◌, Bool, true, false, ◌&&◌, ltb, ◌⊎◌, List, [], ◌∷◌, map, length, get_or, Some, None, ◌==◌, nat_le, nat_lt, slice_index_or, refl}
 use Rattle.std.proofs.Common.{sym, ap, subst, ◌∙◌, inl, inr, arith}
 use Rattle.std.proofs.Math.Path.{fun_ext}
-use Rattle.std.specs.List.{AllByRecursion as All, slice_get}
+use Rattle.std.specs.List.{AllByRecursion, slice_get}
 use Rattle.std.proofs.lemmas.Nat.{div_below, mod_below, div-add-mod'}
 use Rattle.std.proofs.ByRecursion.{All-from_get_or, All-get_or, All-map, All-weaker}
 use Rattle.std.proofs.lemmas.List.{get_or_past, get_or-map, take_all, length-map}
@@ -17,11 +17,11 @@ use Rattle.systems.specs.Runs.{aimed_run, length_run, nth_run, nth_run_past}
 use Rattle.systems.specs.Mounted.{all-fine, all-sized, asked-all, few-all, none-past, none-acts}
 
 module _ {X : Type 0} (p : X → Bool) where
-  every-all : (xs : List X) → every p xs ≡ true → All (λ x. p x ≡ true) xs
+  every-all : (xs : List X) → every p xs ≡ true → AllByRecursion (λ x. p x ≡ true) xs
   every-all [] e = tt
   every-all (x ∷ xs) e = let q = and_parts (p x) (every p xs) e in (q.0, every-all xs q.1)
 
-  all-every : (xs : List X) → All (λ x. p x ≡ true) xs → every p xs ≡ true
+  all-every : (xs : List X) → AllByRecursion (λ x. p x ≡ true) xs → every p xs ≡ true
   all-every [] h = refl
   all-every (x ∷ xs) h = and_from (p x) (every p xs) h.0 (all-every xs h.1)
 
@@ -52,14 +52,14 @@ module _ (n b : ℕ) (ts : List Target) where
   -- a list of a good index
   record Fits (rs : List MoveRecord) : Type 0 where
     few : length rs ≤ b
-    each : All (Fit n b ts) rs
+    each : AllByRecursion (Fit n b ts) rs
 
   fits-list : (rs : List MoveRecord) → good_list n b ts rs ≡ true → Fits rs
   fits-list rs e =
       let p = and_parts (nat_le (length rs) b) (every (good_record n b ts) rs) e in
       record { few = leb-true (length rs) b p.0; each = All-weaker (λ r. good_record n b ts r ≡ true) (Fit n b ts) fit rs (every-all (good_record n b ts) rs p.1) }
 
-  list-fits : (rs : List MoveRecord) → length rs ≤ b → All (Fit n b ts) rs → good_list n b ts rs ≡ true
+  list-fits : (rs : List MoveRecord) → length rs ≤ b → AllByRecursion (Fit n b ts) rs → good_list n b ts rs ≡ true
   list-fits rs h each =
       and_from (nat_le (length rs) b) (every (good_record n b ts) rs) (le-leb (length rs) b h)
       (all-every (good_record n b ts) rs (All-weaker (Fit n b ts) (λ r. good_record n b ts r ≡ true) unfit rs each))

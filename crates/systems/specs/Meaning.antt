@@ -1,6 +1,6 @@
 -- What a system means: its numbers and its lists of moves, and the rules that they keep.
 use Rattle.std.specs.Prelude.{◌≡◌, ℕ, ◌<◌, ◌≤◌, List, [], ◌∷◌, length, sum_by}
-use Rattle.std.specs.List.{AllByRecursion as All}
+use Rattle.std.specs.List.{AllByRecursion}
 use Rattle.systems.specs.declared.system.Target.{Target}
 
 abbrev pub Move : Type 0
@@ -19,7 +19,7 @@ total mv = sum_by (λ t. t.weight) mv
 -- at least one state, and no target past the last
 pub record Shaped (s : Meaning) : Type 0 where
   pub some : 1 ≤ s.states
-  pub closed : (k a : ℕ) → All (All (λ t. t.state < s.states)) (s.moves k a)
+  pub closed : (k a : ℕ) → AllByRecursion (AllByRecursion (λ t. t.state < s.states)) (s.moves k a)
 
 -- a target that goes to one of n states, with some weight
 pub record Aimed (n : ℕ) (t : Target) : Type 0 where
@@ -29,7 +29,7 @@ pub record Aimed (n : ℕ) (t : Target) : Type 0 where
 -- a move of a system with n states, mass m and breadth b
 pub record Good (n m b : ℕ) (mv : Move) : Type 0 where
   pub short : length mv ≤ b
-  pub aimed : All (Aimed n) mv
+  pub aimed : AllByRecursion (Aimed n) mv
   pub whole : total mv ≡ m
 
 -- the rules that every system keeps
@@ -40,7 +40,7 @@ pub record Ruled (s : Meaning) : Type 0 where
   pub past_states : (k a : ℕ) → s.states ≤ k → s.moves k a ≡ []
   pub past_actions : (k a : ℕ) → 32 ≤ a → s.moves k a ≡ []
   pub few : (k a : ℕ) → length (s.moves k a) ≤ s.breadth
-  pub each : (k a : ℕ) → All (Good s.states s.mass s.breadth) (s.moves k a)
+  pub each : (k a : ℕ) → AllByRecursion (Good s.states s.mass s.breadth) (s.moves k a)
 
 -- the largest states and breadth are 2 ^ 30, the largest mass is 10 ^ 15
 pub record Limited (s : Meaning) : Type 0 where

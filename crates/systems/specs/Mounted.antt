@@ -1,7 +1,7 @@
 -- What is known of tables in which no record is refused.
 use Rattle.std.specs.Prelude.{◌≡◌, ℕ, zero, suc, ◌+◌, ◌<◌, ◌≤◌, max, true, false, ◌&&◌, ◌⊎◌, List, [], ◌∷◌, length, take, Some, None, Option, ◌==◌, ◌≢◌, nat_le, nat_lt, slice_index_or, refl}
 use Rattle.std.proofs.Common.{sym, ap, subst, ◌∙◌, inl, inr, arith, add-one}
-use Rattle.std.specs.List.{AllByRecursion as All}
+use Rattle.std.specs.List.{AllByRecursion}
 use Rattle.std.proofs.ByRecursion.{All-from_get_or, all_kept_by, kept_by_passes}
 use Rattle.std.proofs.lemmas.List.{get_or_default, take_all}
 use Rattle.std.proofs.lemmas.Bool.{and_parts, eqb-true, ltb-true, leb-true, cond-true, cond-false, cases_lt, cases_Bool}
@@ -163,7 +163,7 @@ module _ (n : ℕ) (rs : List MoveRecord) (ts : List Target) where
         subst P (get_or_default rs i no_record d l) ((all-fine i l).alone-fits.inside, (all-fine i l).alone-fits.act)
 
     -- what holds of each record holds of those of a state and an action
-    pub asked-all : (P : MoveRecord → Type 0) → ((i : ℕ) → i < length rs → P (row rs i)) → (k a : ℕ) → All P (asked k a rs)
+    pub asked-all : (P : MoveRecord → Type 0) → ((i : ℕ) → i < length rs → P (row rs i)) → (k a : ℕ) → AllByRecursion P (asked k a rs)
     asked-all P h k a = all_kept_by (asks k a) P rs (All-from_get_or P rs no_record h)
 
     -- no record is of a state or an action out of range
@@ -171,7 +171,7 @@ module _ (n : ℕ) (rs : List MoveRecord) (ts : List Target) where
     none_of k a never =
         no-element (asked k a rs) (λ r p q. never r p q) (asked-all (λ r. (r.state < n) × (r.action < 32)) (λ i l. all-inside i no_record l) k a) (kept_by_passes (asks k a) rs)
       where
-        no-element : (xs : List MoveRecord) → ((r : MoveRecord) → (r.state < n) × (r.action < 32) → asks k a r ≢ true) → All (λ r. (r.state < n) × (r.action < 32)) xs → All (λ r. asks k a r ≡ true) xs → xs ≡ []
+        no-element : (xs : List MoveRecord) → ((r : MoveRecord) → (r.state < n) × (r.action < 32) → asks k a r ≢ true) → AllByRecursion (λ r. (r.state < n) × (r.action < 32)) xs → AllByRecursion (λ r. asks k a r ≡ true) xs → xs ≡ []
         no-element [] h p q = refl
         no-element (x ∷ xs) h p q = absurd (h x p.0 q.0)
 

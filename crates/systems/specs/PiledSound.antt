@@ -3,7 +3,7 @@ use Rattle.std.specs.Prelude.{◌≡◌, ℕ, ◌+◌, ◌*◌, ◌/◌, ◌%◌
 use Rattle.std.proofs.Common.{sym, ap₂, subst, ◌∙◌, inl, inr, arith, mul-le-mul}
 use Rattle.std.proofs.Math.Nat.{one-le-mul}
 use Rattle.std.proofs.Math.Arith.{digits_lt}
-use Rattle.std.specs.List.{AllByRecursion as All}
+use Rattle.std.specs.List.{AllByRecursion}
 use Rattle.std.proofs.lemmas.Bool.{cases_lt, cases_Bool, cond-true, cond-false, and_parts, eqb-true}
 use Rattle.std.proofs.lemmas.Nat.{div_below, mod_below}
 use Rattle.std.proofs.ByRecursion.{All-append, All-map, All-weaker}
@@ -55,10 +55,10 @@ module _ (A : ℕ → Bool) (U L : Meaning) (su : Ruled U) (sl : Ruled L) where
       go (inl e) = rw (shared-count A U L u v a e) (mul-le-mul (su.few u a) (sl.few v a))
       go (inr e) = rw (apart_count A U L u v a e) (sum_le_product U.breadth L.breadth (length (U.moves u a)) (length (L.moves v a)) su.breadth_low sl.breadth_low (su.few u a) (sl.few v a))
 
-  good-moves : (u v a : ℕ) → u < U.states → v < L.states → All (Good (U.states * L.states) (U.mass * L.mass) (U.breadth * L.breadth)) (moves_over A U L u v a)
+  good-moves : (u v a : ℕ) → u < U.states → v < L.states → AllByRecursion (Good (U.states * L.states) (U.mass * L.mass) (U.breadth * L.breadth)) (moves_over A U L u v a)
   good-moves u v a hu hv = go (cases_Bool (A a))
     where
-      go : (A a ≡ true) ⊎ (A a ≡ false) → All (Good (U.states * L.states) (U.mass * L.mass) (U.breadth * L.breadth)) (moves_over A U L u v a)
+      go : (A a ≡ true) ⊎ (A a ≡ false) → AllByRecursion (Good (U.states * L.states) (U.mass * L.mass) (U.breadth * L.breadth)) (moves_over A U L u v a)
       go (inl e) =
           rw (shared-moves A U L u v a e)
           (all_cross (pair L.states) (Good U.states U.mass U.breadth) (Good L.states L.mass L.breadth) (Good (U.states * L.states) (U.mass * L.mass) (U.breadth * L.breadth))
@@ -97,7 +97,7 @@ module _ (A : ℕ → Bool) (U L : Meaning) (su : Ruled U) (sl : Ruled L) where
     past_states = outside-moves A U L;
     past_actions = λ k a h. by-range (λ ms. ms ≡ []) k a (λ _. no-moves (k / L.states) (k % L.states) a h) refl;
     few = λ k a. by-range (λ ms. length ms ≤ U.breadth * L.breadth) k a (λ _. few-moves (k / L.states) (k % L.states) a) (omega arith);
-    each = λ k a. by-range (All (Good (U.states * L.states) (U.mass * L.mass) (U.breadth * L.breadth))) k a (λ h. good-moves (k / L.states) (k % L.states) a (upper-below k h) (lower-below k)) tt;
+    each = λ k a. by-range (AllByRecursion (Good (U.states * L.states) (U.mass * L.mass) (U.breadth * L.breadth))) k a (λ h. good-moves (k / L.states) (k % L.states) a (upper-below k h) (lower-below k)) tt;
   }
 
 -- a fact of the moves of a fitted meaning
@@ -128,14 +128,14 @@ ruled_fitted n m b S n1 m1 b1 s = record {
   past_states = λ k a h. fitted_by n m b S (λ ms. ms ≡ []) k a (λ e. (s e).past_states k a (omega (arith, (same_numbers n m b S e).states_same))) refl;
   past_actions = λ k a h. fitted_by n m b S (λ ms. ms ≡ []) k a (λ e. (s e).past_actions k a h) refl;
   few = λ k a. fitted_by n m b S (λ ms. length ms ≤ b) k a (λ e. subst (λ (x : ℕ). length (S.moves k a) ≤ x) (same_numbers n m b S e).breadth_same ((s e).few k a)) (omega arith);
-  each = λ k a. fitted_by n m b S (All (Good n m b)) k a (λ e. at-numbers e k a) tt;
+  each = λ k a. fitted_by n m b S (AllByRecursion (Good n m b)) k a (λ e. at-numbers e k a) tt;
 }
   where
-    at-numbers : agrees n m b S ≡ true → (k a : ℕ) → All (Good n m b) (S.moves k a)
+    at-numbers : agrees n m b S ≡ true → (k a : ℕ) → AllByRecursion (Good n m b) (S.moves k a)
     at-numbers e k a =
-        subst (λ (x : ℕ). All (Good x m b) (S.moves k a)) (same_numbers n m b S e).states_same
-        (subst (λ (y : ℕ). All (Good S.states y b) (S.moves k a)) (same_numbers n m b S e).mass_same
-        (subst (λ (z : ℕ). All (Good S.states S.mass z) (S.moves k a)) (same_numbers n m b S e).breadth_same ((s e).each k a)))
+        subst (λ (x : ℕ). AllByRecursion (Good x m b) (S.moves k a)) (same_numbers n m b S e).states_same
+        (subst (λ (y : ℕ). AllByRecursion (Good S.states y b) (S.moves k a)) (same_numbers n m b S e).mass_same
+        (subst (λ (z : ℕ). AllByRecursion (Good S.states S.mass z) (S.moves k a)) (same_numbers n m b S e).breadth_same ((s e).each k a)))
 
 -- a fitted pile keeps the rules with no condition on the pile, and the limits where its own numbers do
 pub sound_piled : (A : ℕ → Bool) (n m b : ℕ) (U L : Meaning) → Ruled U → Ruled L → Between 1 1073741824 n → Between 1 1000000000000000 m → Between 2 1073741824 b → Sound (fitted n m b (pile A U L))

@@ -1,7 +1,7 @@
 -- The records of a state and an action, and the run of a record.
 use Rattle.std.specs.Prelude.{◌≡◌, ℕ, ◌+◌, ◌<◌, ◌≤◌, Bool, true, false, cond, ◌&&◌, ◌⊎◌, List, [], ◌∷◌, length, get_or, take, drop, Some, None, ◌==◌, ◌≢◌, nat_le, nat_lt, slice_index_or}
 use Rattle.std.proofs.Common.{sym, ap, ◌∙◌, inl, inr, arith, add-zero, length-drop, length-append}
-use Rattle.std.specs.List.{slice_get, AllByRecursion as All}
+use Rattle.std.specs.List.{slice_get, AllByRecursion}
 use Rattle.std.proofs.lemmas.List.Elements.{filter_more}
 use Rattle.std.proofs.lemmas.List.{length-take-le, drop_more, get_or-take, get_or-drop}
 use Rattle.std.proofs.lemmas.Option.{slice_get-get_or, slice_get_past}
@@ -11,7 +11,7 @@ use Rattle.systems.specs.declared.records.MoveRecord.{MoveRecord}
 use Rattle.systems.specs.Meaning.{Move, Aimed}
 use Rattle.systems.specs.Tables.{asks, asked, run, good_target, good_run}
 
-pub aimed_run : (n : ℕ) (mv : Move) → good_run n mv ≡ true → All (Aimed n) mv
+pub aimed_run : (n : ℕ) (mv : Move) → good_run n mv ≡ true → AllByRecursion (Aimed n) mv
 aimed_run n [] e = tt
 aimed_run n (t ∷ ts) e =
     let p = and_parts (good_target n t) (good_run n ts) e in

@@ -1,5 +1,5 @@
 use Rattle.std.proofs.Common.{◌<◌, ◌≤◌, ap, ◌∙◌, subst, arith}
-use Rattle.std.specs.List.{AllByRecursion as All}
+use Rattle.std.specs.List.{AllByRecursion}
 use Rattle.std.proofs.lemmas.List.{take_all}
 use Rattle.std.proofs.ByRecursion.{All-get_or, All-weaker}
 use Rattle.claims.specs.Rows.{marked}
@@ -26,7 +26,7 @@ returns c =
     let all = take_all c.loop-d.d-index c.args.wanted.now c.loop-d-test.false in
     record {
       row = c.loop-d.invariant.0 ∙ ap (marked c.args.row.now) all;
-      around = All-weaker (λ d. (c.loop-d.low ≤ d) × (d < c.loop-d.high)) (λ d. (c.min.result ≤ d) × (d < c.loop-d.high)) (λ d a. (omega (arith, a.0, c.min.ensures), a.1)) c.args.wanted.now (subst (All (λ d. (c.loop-d.low ≤ d) × (d < c.loop-d.high))) all c.loop-d.invariant.1);
+      around = All-weaker (λ d. (c.loop-d.low ≤ d) × (d < c.loop-d.high)) (λ d. (c.min.result ≤ d) × (d < c.loop-d.high)) (λ d a. (omega (arith, a.0, c.min.ensures), a.1)) c.args.wanted.now (subst (AllByRecursion (λ d. (c.loop-d.low ≤ d) × (d < c.loop-d.high))) all c.loop-d.invariant.1);
       ordered = omega (arith, c.min.ensures);
       top = c.loop-d.invariant.2;
     }

@@ -1,5 +1,5 @@
 use Rattle.std.proofs.Common.{◌+◌, ◌-◌, ◌<◌, ◌≤◌, length, take, drop, sym, ap, ◌∙◌, subst, mul-le-mul_right, arith}
-use Rattle.std.specs.List.{AllByRecursion as All}
+use Rattle.std.specs.List.{AllByRecursion}
 use Rattle.std.proofs.ByRecursion.{All-weaker}
 use Rattle.formulas.specs.Truths.{any, of_node}
 use Rattle.claims.specs.Spots.{spot_of}
@@ -14,7 +14,7 @@ reach-span-requires g c =
     let M = g.S.System.meaning c.args.system.now in
     record {
       parted = sits_parted M c.args.tables c.requires.board.sits;
-      before = subst (All (λ d. d < c.args.upto)) (sym (sliced c.args.tables.alternatives.now c.args.run)) c.requires.run.below;
+      before = subst (AllByRecursion (λ d. d < c.args.upto)) (sym (sliced c.args.tables.alternatives.now c.args.run)) c.requires.run.below;
       nodes = c.requires.board.nodes;
       long = c.requires.board.long;
       clear = c.requires.clear;

@@ -1,5 +1,5 @@
 use Rattle.std.proofs.Common.{◌≡◌, ℕ, ◌<◌, ◌≤◌, cond, List, ◌++◌, map, length, sym, refl, ap, ◌∙◌, subst, arith}
-use Rattle.std.specs.List.{range_with_len, AllByRecursion as All}
+use Rattle.std.specs.List.{range_with_len, AllByRecursion}
 use Rattle.systems.specs.Piles.{cross}
 use Rattle.formulas.specs.Lines.{entries}
 use Rattle.formulas.specs.Append.{table}
@@ -13,7 +13,7 @@ pub put_move_parts-requires : goal.put_move_parts-requires
 put_move_parts-requires g c =
     let x = c.args.plan in
     let fit = c.requires.fit in
-    let Inside : List ℕ → Type 0 = λ l. All (λ d. d < length (plan_nodes x)) l in
+    let Inside : List ℕ → Type 0 = λ l. AllByRecursion (λ d. d < length (plan_nodes x)) l in
     let rows = rows-from (g.S.System.meaning c.args.system.now) x c.requires.planned (g.met.S.System.sound c.args.system.now).ruled c.args.p c.args.action _ c.requires.inside c.first_row-row.ensures in
     record {
       sampling = c.requires.planned.sampling;
@@ -26,7 +26,7 @@ pub put_here_parts-requires : goal.put_here_parts-requires
 put_here_parts-requires g c =
     let x = c.args.plan in
     let fit = c.requires.fit in
-    let Inside : List ℕ → Type 0 = λ l. All (λ d. d < length (plan_nodes x)) l in
+    let Inside : List ℕ → Type 0 = λ l. AllByRecursion (λ d. d < length (plan_nodes x)) l in
     let rows = rows-from (g.S.System.meaning c.args.system.now) x c.requires.planned (g.met.S.System.sound c.args.system.now).ruled c.args.p c.args.action _ c.requires.inside c.first_row-row.ensures in
     record {
       sampling = c.requires.planned.sampling;

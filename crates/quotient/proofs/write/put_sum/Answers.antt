@@ -1,5 +1,5 @@
 use Rattle.std.proofs.Common.{◌≡◌, ◌*◌, ◌≤◌, List, sym, refl, ap, ◌∙◌, subst, arith}
-use Rattle.std.specs.List.{AllByRecursion as All}
+use Rattle.std.specs.List.{AllByRecursion}
 use Rattle.systems.specs.Piles.{cross}
 use Rattle.formulas.specs.declared.node.Term.{Term}
 use Rattle.formulas.specs.Append.{table}
@@ -13,7 +13,7 @@ use Rattle.quotient.proofs.write.put_sum.Goals as goal
 pub put_terms-requires : goal.put_terms-requires
 put_terms-requires c =
     let x = c.args.plan in
-    let Light : List Term → Type 0 = λ l. All (LightTerm x) l in
+    let Light : List Term → Type 0 = λ l. AllByRecursion (LightTerm x) l in
     record { sampling = c.requires.sampling; targets = c.requires.targets; terms = subst Light (sym (cut x.terms.now c.args.run)) (light-terms x c.args.threshold c.args.run c.requires.fit) }
 
 pub overflow_sub-end : goal.overflow_sub-end

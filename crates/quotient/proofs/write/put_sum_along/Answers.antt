@@ -1,5 +1,5 @@
 use Rattle.std.proofs.Common.{◌≡◌, ◌-◌, [], length, get_or, take, sym, ap, ◌∙◌, subst, arith}
-use Rattle.std.specs.List.{AllByRecursion as All}
+use Rattle.std.specs.List.{AllByRecursion}
 use Rattle.systems.specs.Meaning.{Move}
 use Rattle.formulas.specs.Append.{table}
 use Rattle.formulas.specs.Lines.{entries}
@@ -26,7 +26,7 @@ put_sum-requires g c =
     let R = g.S.System.meaning c.args.system.now in
     let good = move-good R (g.met.S.System.sound c.args.system.now).ruled c.args.state c.args.action c.args.number c.requires.inside in
     let whole : c.read_targets-count.result - 0 ≡ length (get_or (R.moves c.args.state c.args.action) c.args.number []) = omega (arith, c.read_targets-count.ensures.count) in
-    let Light : Move → Type 0 = λ mv. All (LightTarget c.args.plan) mv in
+    let Light : Move → Type 0 = λ mv. AllByRecursion (LightTarget c.args.plan) mv in
     record {
       sampling = c.requires.planned.sampling;
       targets = subst Light (sym (ap (λ n. take n c.read_targets-count.new.buffer) whole ∙ c.read_targets-count.ensures.read)) (light_targets R c.args.plan c.requires.planned _ good);

@@ -1,5 +1,5 @@
 use Rattle.std.proofs.Common.{◌<◌, map, length, sym, ap, subst, arith}
-use Rattle.std.specs.List.{AllByRecursion as All}
+use Rattle.std.specs.List.{AllByRecursion}
 use Rattle.std.proofs.lemmas.List.{length-append}
 use Rattle.formulas.specs.declared.node.Node.TheVariants.{State}
 use Rattle.formulas.specs.declared.node.StateNode as sn
@@ -20,7 +20,7 @@ move_alternatives-end-requires c =
       past = omega (arith, count, c.requires.past, c.requires.next, c.move_alternatives-middle.ensures.end);
       within = omega (arith, c.requires.within, c.move_alternatives-middle.auto.alternatives);
       small = omega (arith, c.requires.small, c.move_alternatives-middle.auto.alternatives);
-      below = subst (All (λ d. d < length c.args.numbers.now)) (sym same) c.requires.heres;
+      below = subst (AllByRecursion (λ d. d < length c.args.numbers.now)) (sym same) c.requires.heres;
     }
 
 pub returns : goal.returns

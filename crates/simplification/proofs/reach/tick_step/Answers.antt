@@ -1,5 +1,5 @@
 use Rattle.std.proofs.Common.{ℕ, ◌<◌, List, length, sym, ap, ◌∙◌, subst, ap₂, arith}
-use Rattle.std.specs.List.{AllByRecursion as All}
+use Rattle.std.specs.List.{AllByRecursion}
 use Rattle.std.proofs.ByRecursion.{All-weaker}
 use Rattle.formulas.specs.Lines.{entries}
 use Rattle.simplification.specs.Reaching.{ticked}
@@ -7,11 +7,11 @@ use Rattle.simplification.proofs.Ticking.{ticked-append}
 use Rattle.simplification.proofs.reach.tick_step.Goals as goal
 
 pub tick_all-requires : goal.tick_all-requires
-tick_all-requires c = subst (All (λ d. d < length c.args.ticks.now)) (sym c.entries_of.ensures) c.requires.moves
+tick_all-requires c = subst (AllByRecursion (λ d. d < length c.args.ticks.now)) (sym c.entries_of.ensures) c.requires.moves
 
 pub tick_all-requires-2 : goal.tick_all-requires-2
 tick_all-requires-2 c =
-    subst (All (λ d. d < length c.tick_all.new.ticks)) (sym c.entries_of-2.ensures)
+    subst (AllByRecursion (λ d. d < length c.tick_all.new.ticks)) (sym c.entries_of-2.ensures)
     (All-weaker (λ d. d < length c.args.ticks.now) (λ d. d < length c.tick_all.new.ticks) (λ d h. omega (arith, c.tick_all.auto.ticks))
     (entries c.args.alternatives.now c.args.heres) c.requires.heres)
 

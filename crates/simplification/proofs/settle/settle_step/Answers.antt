@@ -1,5 +1,5 @@
 use Rattle.std.proofs.Common.{◌+◌, length, sym, refl, ap, ◌∙◌, subst, arith}
-use Rattle.std.specs.List.{AllByRecursion as All}
+use Rattle.std.specs.List.{AllByRecursion}
 use Rattle.formulas.specs.Lines.{entries}
 use Rattle.simplification.specs.Simplify.{has_yes, alternatives_left}
 use Rattle.simplification.specs.Settling.{glance, Led}
@@ -19,7 +19,7 @@ keep_alternatives-end-requires c =
       past = omega (arith, free, c.keep_alternatives-middle.ensures.end);
       within = omega (arith, c.requires.within, c.keep_alternatives-middle.auto.alternatives);
       small = omega (arith, c.requires.small, c.keep_alternatives-middle.auto.alternatives);
-      led = subst (All (Led c.args.nodes.now c.args.map.now)) (sym same) c.requires.heres;
+      led = subst (AllByRecursion (Led c.args.nodes.now c.args.map.now)) (sym same) c.requires.heres;
     }
 
 pub returns : goal.returns
