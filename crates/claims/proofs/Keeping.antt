@@ -6,7 +6,7 @@ use Rattle.systems.specs.Meaning.{Meaning}
 use Rattle.systems.specs.PileLaw.{PileLaw}
 use Rattle.systems.specs.Piles.{pile}
 use Rattle.formulas.specs.declared.node.Fills.{Fills}
-use Rattle.formulas.specs.declared.refusal.Refusal.{Refusal}
+use Rattle.formulas.specs.declared.refusal.Refusal.{Refusal as FormulaRefusal}
 use Rattle.formulas.specs.Laws.{HeldLaw, LinesLaw}
 use Rattle.formulas.specs.Stands.{stands}
 use Rattle.formulas.specs.Tables.{Slots, stands_in, formula_at}
@@ -18,9 +18,11 @@ use Rattle.simplification.specs.Laws.{KeepsTruthLaw, WeighedLaw}
 use Rattle.simplification.specs.Simplify.{simplify}
 use Rattle.simplification.specs.Tables.{Done, desk}
 use Rattle.claims.specs.declared.claim.Claim.{Claim}
+use Rattle.claims.specs.declared.fault.Refusal.{Refusal}
+use Rattle.claims.specs.declared.tables.Tables.{Tables}
 use Rattle.claims.specs.declared.verdict.Verdict.{Verdict}
-use Rattle.claims.specs.Books.{stage, Stands}
-use Rattle.claims.specs.Claims.{formula}
+use Rattle.claims.specs.Books.{contents, stage, formula_on, Stands}
+use Rattle.claims.specs.Claims.{stands_in as stands_in_tables}
 use Rattle.claims.specs.Law.{RemoveKeeps, SimplifyKeeps, Said, JudgeKeeps}
 use Rattle.claims.specs.Removals.{rest, Removed}
 use Rattle.claims.specs.Simplifications.{Simplified}
@@ -28,16 +30,16 @@ use Rattle.claims.specs.Verdicts.{verdict, judged}
 use Rattle.claims.proofs.Fronts.{laid-back, taken_back}
 
 -- what is chosen where a test fails is an error, so an Ok was chosen by a test that holds
-tested : {T : Type 0} (b : Bool) (why : Refusal) (other : Result T Refusal) → is_ok (cond (not b) (Err why) other) ≡ true → b ≡ true
+tested : {T : Type 0} (b : Bool) (why : FormulaRefusal) (other : Result T FormulaRefusal) → is_ok (cond (not b) (Err why) other) ≡ true → b ≡ true
 tested true why other e = refl
 tested false why other e = absurd (true≢false (sym e))
 
 -- past a test that an Ok has passed
-pub past : {T : Type 0} {v : T} (b : Bool) (why : Refusal) (other : Result T Refusal) → cond b (Err why) other ≡ Ok v → other ≡ Ok v
+pub past : {T E : Type 0} {v : T} (b : Bool) (why : E) (other : Result T E) → cond b (Err why) other ≡ Ok v → other ≡ Ok v
 past true why other e = absurd (true≢false (sym (ap is_ok e)))
 past false why other e = e
 
-pub tested-desk : (b : Bool) (why : Refusal) (d : _) (other : Done) → is_ok (cond (not b) (record { answer = Err why; left = d }) other).answer ≡ true → b ≡ true
+pub tested-desk : (b : Bool) (why : FormulaRefusal) (d : _) (other : Done) → is_ok (cond (not b) (record { answer = Err why; left = d }) other).answer ≡ true → b ≡ true
 tested-desk true why d other e = refl
 tested-desk false why d other e = absurd (true≢false (sym e))
 
@@ -58,7 +60,7 @@ stack_more A (r ∷ rs) R S = ap (pile A r) (stack_more A rs R S)
 module _ (held : HeldLaw) (back : LinesLaw) where
   module _ (quotient-law : QuotientLaw) (shape : ShapeLaw) (piles : PileLaw) where
     -- the formula of the new claim
-    removed-formula : (R : Meaning) (c : Claim) (s second : Slots) (new : Claim) (f : Fills) (after : Slots) → Removed R c s second new f after → formula new after ≡ rest R c s
+    removed-formula : (R : Meaning) (c : Claim) (s second : Slots) (new : Claim) (f : Fills) (after : Slots) → Removed R c s second new f after → formula_on (stage new after) ≡ rest R c s
     removed-formula R c s second new f after p =
         stood p.fills p.root p.tables ∙ laid-back back (rest R c s) second
 
@@ -67,21 +69,21 @@ module _ (held : HeldLaw) (back : LinesLaw) where
         let A = has c.shared in
         let formed = well_formed held c.fills c.root c.mass s (tested _ _ _ (ap is_ok p.accepted)) in
         ap (holds S) (removed-formula R c s second x.0 x.1 after p)
-        ∙ (quotient-law A R S (formula c s) (shape R sound.ruled) (shape S ruled) formed).1
+        ∙ (quotient-law A R S (formula_on (stage c s)) (shape R sound.ruled) (shape S ruled) formed).1
         ∙ right (pile A R S) (piles.ruled A R S sound.ruled ruled)
         ∙ ap (λ M. holds M k.first) (sym (stack_more A k.removed R S) ∙ ap (λ B. stack (has B) (k.removed ++ (R ∷ [])) S) (sym p.shared))
     remove-keeps R c s second after (Err e) sound p k right S ruled = subst (λ d. Stands k (stage d s)) (sym p.claim) right S ruled
 
   module _ (keeps : KeepsTruthLaw) (weighed : WeighedLaw) where
-    pub simplified-formula : (c new : Claim) (s s' : Slots) (map map' : List ℕ) (f : Fills) → Simplified c (desk s map) f new (desk s' map') → formula new s' ≡ simplify (formula c s)
+    pub simplified-formula : (c new : Claim) (s s' : Slots) (map map' : List ℕ) (f : Fills) → Simplified c (desk s map) f new (desk s' map') → formula_on (stage new s') ≡ simplify (formula_on (stage c s))
     simplified-formula c new s s' map map' f p =
-        stood p.fills p.root (ap (λ d. d.tables) p.tables) ∙ taken_back back (simplify (formula c s)) c.fills (desk s map)
+        stood p.fills p.root (ap (λ d. d.tables) p.tables) ∙ taken_back back (simplify (formula_on (stage c s))) c.fills (desk s map)
 
     pub simplify-keeps : SimplifyKeeps
     simplify-keeps c new s s' map map' (Ok f) p k right S ruled =
         let formed = well_formed held c.fills c.root c.mass s (tested-desk _ _ _ _ (ap (λ d. is_ok d.answer) p.accepted)) in
         ap (holds S) (simplified-formula c new s s' map map' f p)
-        ∙ keeps S (weighed S ruled) (formula c s) formed 0
+        ∙ keeps S (weighed S ruled) (formula_on (stage c s)) formed 0
         ∙ right S ruled
         ∙ ap (λ B. holds (stack (has B) k.removed S) k.first) (sym p.shared)
     simplify-keeps c new s s' map map' (Err e) p k right S ruled =
@@ -92,16 +94,16 @@ value d (Ok v) = v
 value d (Err e) = d
 
 -- the verdict on a claim that passes the tests
-pub judged-holds : (S : Meaning) (c : Claim) (s : Slots) (size len : ℕ) (v : Verdict) → judged S c s size len ≡ Ok v → v ≡ verdict (holds S (formula c s))
+pub judged-holds : (S : Meaning) (c : Claim) (t : Tables) (size len : ℕ) (v : Verdict) → judged S c t size len ≡ Ok v → v ≡ verdict (holds S (formula_on (stage c (contents t))))
 unfolding value
-judged-holds S c s size len v e =
+judged-holds S c t size len v e =
     ap (value v)
     (sym (past (ltb size (c.fills.nodes * S.states) || ltb len c.fills.nodes) _ _
-    (past (ltb 1000000000000000 (c.mass * S.mass)) _ _ (past (not (stands_in c.fills c.root c.mass s)) _ _ e))))
+    (past (ltb 1000000000000000 (c.mass * S.mass)) _ _ (past (not (stands_in_tables c.fills c.root c.mass t)) _ _ e))))
 
 pub judge_keeps : JudgeKeeps
-judge_keeps S c s size len sound k right = (go (judged S c s size len) refl, right)
+judge_keeps S c t size len sound k right = (go (judged S c t size len) refl, right)
   where
-    go : (r : Result Verdict Refusal) → judged S c s size len ≡ r → Said k c S r
-    go (Ok v) e = judged-holds S c s size len v e ∙ ap verdict (right S sound.ruled)
+    go : (r : Result Verdict Refusal) → judged S c t size len ≡ r → Said k c S r
+    go (Ok v) e = judged-holds S c t size len v e ∙ ap verdict (right S sound.ruled)
     go (Err why) e = tt

@@ -1,7 +1,6 @@
 -- The law of runs.
 use Rattle.std.proofs.Common.{◌≡◌, ℕ, List, [], ◌∷◌, is_ok, Ok, Err, Result, sym, refl, ap, ◌∙◌, subst, ap₂}
 use mathlib.Core.Path.{fun_ext}
-use Rattle.formulas.specs.declared.refusal.Refusal.{Refusal}
 use Rattle.std.specs.List.{AllByRecursion}
 use Rattle.std.proofs.ByRecursion.{All-append, All-weaker}
 use Rattle.systems.specs.declared.actions.ActionSet.{ActionSet}
@@ -19,12 +18,14 @@ use Rattle.simplification.specs.Laws.{KeepsTruthLaw, WeighedLaw, SettlesLaw, Set
 use Rattle.simplification.specs.Simplify.{simplify as simpler}
 use Rattle.simplification.specs.Tables.{Desk, desk}
 use Rattle.claims.specs.declared.claim.Claim.{Claim}
-use Rattle.claims.specs.Books.{Entry, Book, fed, Stage, formula_on, Stands}
-use Rattle.claims.specs.Claims.{formula}
+use Rattle.claims.specs.declared.fault.Refusal.{Refusal}
+use Rattle.claims.specs.declared.tables.Tables.{Tables}
+use Rattle.claims.specs.declared.verdict.Verdict.{Verdict}
+use Rattle.claims.specs.Books.{Entry, Book, fed, contents, Stage, stage, formula_on, Stands}
 use Rattle.claims.specs.Law.{Alike, AllAlike, Reordered, LeftSettled, After, Agreement, LawOfRuns}
 use Rattle.claims.specs.Runs.{Step, remove, simplify, judge, Run, begin, call, New}
 use Rattle.claims.specs.Simplifications.{Simplifies}
-use Rattle.claims.specs.Verdicts.{verdict}
+use Rattle.claims.specs.Verdicts.{verdict, judged}
 use Rattle.claims.proofs.Keeping.{tested-desk, well_formed, remove-keeps, simplified-formula, simplify-keeps, judged-holds}
 
 -- what no question tells apart is the same
@@ -38,6 +39,10 @@ all_same [] [] e = refl
 all_same [] (n ∷ ns) e = absurd e
 all_same (m ∷ ms) [] e = absurd e
 all_same (m ∷ ms) (n ∷ ns) e = ap₂ ◌∷◌ (alike_same m n e.0) (all_same ms ns e.1)
+
+-- the verdict on the claim at h, in lent tables that hold what stands there
+told : (S : Meaning) (h : Stage) (t : Tables) → contents t ≡ h.tables → (size len : ℕ) (v : Verdict) → judged S h.claim t size len ≡ Ok v → v ≡ verdict (holds S (formula_on h))
+told S h t same size len v e = judged-holds S h.claim t size len v e ∙ ap (λ s. verdict (holds S (formula_on (stage h.claim s)))) same
 
 module _
     (held : HeldLaw) (back : LinesLaw) (quotients : QuotientLaw) (order : OrderLaw) (shape : ShapeLaw) (piles : PileLaw)
@@ -76,7 +81,7 @@ module _
         ruled = p.ruled;
         stands = simplify-keeps held back keeps weighed h.claim c h.tables s map map' (Err e) q k p.stands;
       }
-      step-faithful p (judge S truth row r sound q) = p
+      step-faithful p (judge S t truth row r sound same q) = p
 
       run-faithful : {k : Book} {h : Stage} → New A g → Run g k h → Faithful k h
       run-faithful new begin = record { first = refl; shared = new.opened.shared; ruled = tt; stands = λ S ruled. refl }
@@ -89,7 +94,7 @@ module _
     settled-after : (h : Stage) (map : List ℕ) (r : Result Fills Refusal) (c : Claim) (d : Desk) → Simplifies h.claim (desk h.tables map) r c d → LeftSettled r c d.tables
     settled-after h map (Err why) c d p = tt
     settled-after h map (Ok f) c d p =
-        let same : formula c d.tables ≡ simpler (formula_on h) = simplified-formula held back keeps weighed h.claim c h.tables d.tables map d.map f p in
+        let same : formula_on (stage c d.tables) ≡ simpler (formula_on h) = simplified-formula held back keeps weighed h.claim c h.tables d.tables map d.map f p in
         let formed = well_formed held h.claim.fills h.claim.root h.claim.mass h.tables (tested-desk _ _ _ _ (ap (λ o. is_ok o.answer) p.accepted)) in
         subst Settles (sym same) (settles (formula_on h) formed)
 
@@ -98,7 +103,7 @@ module _
         let p = run-faithful A g new run in
         record {
           truth = truth-after A g p;
-          verdicts = λ S size len v sound e. judged-holds S h.claim h.tables size len v e ∙ ap verdict (truth-after A g p S sound.ruled);
+          verdicts = λ S t size len v sound same e. told S h t same size len v e ∙ ap verdict (truth-after A g p S sound.ruled);
           settled = settled-after h;
         }
 
@@ -117,8 +122,8 @@ module _
         ∙ sym (truth-after A g' p' S ruled) in
         record {
           truth = agree;
-          verdicts = λ S size len size' len' v v' sound e e'.
-              judged-holds S h.claim h.tables size len v e ∙ ap verdict (agree S sound.ruled) ∙ sym (judged-holds S h'.claim h'.tables size' len' v' e');
+          verdicts = λ S t t' size len size' len' v v' sound same-t e same-t' e'.
+              told S h t same-t size len v e ∙ ap verdict (agree S sound.ruled) ∙ sym (told S h' t' same-t' size' len' v' e');
         }
 
     pub law : LawOfRuns

@@ -3,11 +3,11 @@ use Rattle.std.specs.Prelude.{◌≡◌, Bool, true, false, List, [], ◌∷◌,
 use Rattle.systems.specs.Actions.{has}
 use Rattle.systems.specs.Meaning.{Meaning, Ruled}
 use Rattle.formulas.specs.Lines.{Formula}
-use Rattle.formulas.specs.Tables.{Slots}
+use Rattle.formulas.specs.Tables.{Slots, slots, formula_at}
 use Rattle.formulas.specs.Truths.{holds}
 use Rattle.systems.specs.Stacks.{stack}
 use Rattle.claims.specs.declared.claim.Claim.{Claim}
-use Rattle.claims.specs.Claims.{formula}
+use Rattle.claims.specs.declared.tables.Tables.{Tables}
 
 -- a call on a claim, with the system that it is handed
 pub data Call : Type 0 where
@@ -41,6 +41,10 @@ noted k (judging S) refused = k
 abbrev pub fed : Book → Entry → Book
 fed k e = noted k e.call e.refused
 
+-- the entries of lent tables
+abbrev pub contents : Tables → Slots
+contents t = slots t.nodes.now t.terms.now t.alternatives.now
+
 -- a claim with what its tables hold
 pub record Stage : Type 0 where
   pub claim : Claim
@@ -51,7 +55,7 @@ stage c s = record { claim = c; tables = s }
 
 -- the formula that stands there
 abbrev pub formula_on : Stage → Formula
-formula_on g = formula g.claim g.tables
+formula_on g = formula_at g.claim.fills g.claim.root g.tables
 
 -- the removed systems of a book over the system S, the first of them on top, piled with the actions that the claim shares
 abbrev pub stacked : Claim → Book → Meaning → Meaning

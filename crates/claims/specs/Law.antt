@@ -6,16 +6,16 @@ use Rattle.systems.specs.Actions.{has}
 use Rattle.systems.specs.Meaning.{Meaning, Ruled, Sound}
 use Rattle.systems.specs.PileLaw.{PileLaw}
 use Rattle.formulas.specs.declared.node.Fills.{Fills}
-use Rattle.formulas.specs.declared.refusal.Refusal.{Refusal}
 use Rattle.formulas.specs.Tables.{Slots}
 use Rattle.formulas.specs.Truths.{holds}
 use Rattle.systems.specs.Stacks.{stack}
 use Rattle.simplification.specs.Laws.{Settles}
 use Rattle.simplification.specs.Tables.{Desk, desk}
 use Rattle.claims.specs.declared.claim.Claim.{Claim}
+use Rattle.claims.specs.declared.fault.Refusal.{Refusal}
+use Rattle.claims.specs.declared.tables.Tables.{Tables}
 use Rattle.claims.specs.declared.verdict.Verdict.{Verdict}
-use Rattle.claims.specs.Books.{removing, simplifying, judging, entry, Book, fed, Stage, stage, formula_on, stacked, Stands}
-use Rattle.claims.specs.Claims.{formula}
+use Rattle.claims.specs.Books.{removing, simplifying, judging, entry, Book, fed, contents, Stage, stage, formula_on, stacked, Stands}
 use Rattle.claims.specs.Removals.{Answer, Removes}
 use Rattle.claims.specs.Runs.{onward, Run, New}
 use Rattle.claims.specs.Simplifications.{Simplifies}
@@ -23,7 +23,7 @@ use Rattle.claims.specs.Verdicts.{verdict, judged}
 
 -- after an accepted simplify, a formula without move alternatives is plain yes or plain no
 abbrev pub LeftSettled : Result Fills Refusal → Claim → Slots → Type 0
-LeftSettled (Ok f) c s = Settles (formula c s)
+LeftSettled (Ok f) c s = Settles (formula_on (stage c s))
 LeftSettled (Err why) c s = Unit {0}
 
 -- two systems that no question tells apart
@@ -48,7 +48,7 @@ pub record After (A : ActionSet) (g h : Stage) (k : Book) : Type 0 where
   -- the formula then standing says of a system what the first formula says of the stack over it
   pub truth : (S : Meaning) → Ruled S → holds S (formula_on h) ≡ holds (stack (has A) k.removed S) (formula_on g)
   -- and so does every verdict
-  pub verdicts : (S : Meaning) (size len : ℕ) (v : Verdict) → Sound S → judged S h.claim h.tables size len ≡ Ok v
+  pub verdicts : (S : Meaning) (t : Tables) (size len : ℕ) (v : Verdict) → Sound S → contents t ≡ h.tables → judged S h.claim t size len ≡ Ok v
       → v ≡ verdict (holds (stack (has A) k.removed S) (formula_on g))
   -- and an accepted simplify settles a formula that it leaves without move alternatives
   pub settled : (map : List ℕ) (r : Result Fills Refusal) (c : Claim) (d : Desk) → Simplifies h.claim (desk h.tables map) r c d → LeftSettled r c d.tables
@@ -56,8 +56,8 @@ pub record After (A : ActionSet) (g h : Stage) (k : Book) : Type 0 where
 -- two runs from the same formula, with the same systems removed in any order
 pub record Agreement (h h' : Stage) : Type 0 where
   pub truth : (S : Meaning) → Ruled S → holds S (formula_on h) ≡ holds S (formula_on h')
-  pub verdicts : (S : Meaning) (size len size' len' : ℕ) (v v' : Verdict) → Sound S
-      → judged S h.claim h.tables size len ≡ Ok v → judged S h'.claim h'.tables size' len' ≡ Ok v' → v ≡ v'
+  pub verdicts : (S : Meaning) (t t' : Tables) (size len size' len' : ℕ) (v v' : Verdict) → Sound S
+      → contents t ≡ h.tables → judged S h.claim t size len ≡ Ok v → contents t' ≡ h'.tables → judged S h'.claim t' size' len' ≡ Ok v' → v ≡ v'
 
 pub record LawOfRuns : Type 0 where
   pub piles : PileLaw
@@ -83,5 +83,5 @@ Said k c S (Err why) = Unit {0}
 
 abbrev pub JudgeKeeps : Type 0
 JudgeKeeps =
-    (S : Meaning) (c : Claim) (s : Slots) (size len : ℕ) → Sound S →
-    (k : Book) → Stands k (stage c s) → Said k c S (judged S c s size len) × Stands (fed k (entry (judging S) (is_err (judged S c s size len)))) (stage c s)
+    (S : Meaning) (c : Claim) (t : Tables) (size len : ℕ) → Sound S →
+    (k : Book) → Stands k (stage c (contents t)) → Said k c S (judged S c t size len) × Stands (fed k (entry (judging S) (is_err (judged S c t size len)))) (stage c (contents t))

@@ -1,3 +1,4 @@
+pub mod Refusals
 pub mod Claims
 pub mod Verdicts
 pub mod Spots

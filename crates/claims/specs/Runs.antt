@@ -4,12 +4,13 @@ use Rattle.systems.specs.declared.actions.ActionSet.{ActionSet}
 use Rattle.systems.specs.Meaning.{Meaning, Sound}
 use Rattle.formulas.specs.declared.draft.Draft.{Draft}
 use Rattle.formulas.specs.declared.node.Fills.{Fills}
-use Rattle.formulas.specs.declared.refusal.Refusal.{Refusal}
 use Rattle.formulas.specs.Tables.{Slots, stands_in}
 use Rattle.simplification.specs.Tables.{desk}
 use Rattle.claims.specs.declared.claim.Claim.{Claim}
+use Rattle.claims.specs.declared.fault.Refusal.{Refusal}
+use Rattle.claims.specs.declared.tables.Tables.{Tables}
 use Rattle.claims.specs.declared.verdict.Verdict.{Verdict}
-use Rattle.claims.specs.Books.{removing, simplifying, judging, Entry, entry, Book, new_book, fed, Stage, stage, formula_on}
+use Rattle.claims.specs.Books.{removing, simplifying, judging, Entry, entry, Book, new_book, fed, contents, Stage, stage, formula_on}
 use Rattle.claims.specs.Claims.{Opened}
 use Rattle.claims.specs.Removals.{Answer, Removes}
 use Rattle.claims.specs.Simplifications.{Simplifies}
@@ -26,8 +27,8 @@ pub data Step (g : Stage) : Entry → Stage → Type 0 where
       → Sound R → Removes R g.claim g.tables second r after → Step g (entry (removing R) (is_err r)) (onward g.tables r after)
   simplify : (map map' : List ℕ) (s : Slots) (c : Claim) (r : Result Fills Refusal)
       → Simplifies g.claim (desk g.tables map) r c (desk s map') → Step g (entry simplifying (is_err r)) (stage c s)
-  judge : (S : Meaning) (truth row : List ℕ) (r : Result Verdict Refusal)
-      → Sound S → r ≡ judged S g.claim g.tables (length truth) (length row) → Step g (entry (judging S) (is_err r)) g
+  judge : (S : Meaning) (t : Tables) (truth row : List ℕ) (r : Result Verdict Refusal)
+      → Sound S → contents t ≡ g.tables → r ≡ judged S g.claim t (length truth) (length row) → Step g (entry (judging S) (is_err r)) g
 
 -- calls, one after another, from g to another stage, and the book that is kept of them
 pub data Run (g : Stage) : Book → Stage → Type 0 where

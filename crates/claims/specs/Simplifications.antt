@@ -1,18 +1,18 @@
 -- What simplify answers, and what it leaves in the claim, in its tables and in the map.
 use Rattle.std.specs.Prelude.{◌≡◌, Ok, Err, Result}
 use Rattle.formulas.specs.declared.node.Fills.{Fills}
-use Rattle.formulas.specs.declared.refusal.Refusal.{Refusal}
 use Rattle.formulas.specs.Layout.{fills as fills_of}
 use Rattle.formulas.specs.Lines.{Formula}
-use Rattle.formulas.specs.Tables.{standing}
+use Rattle.formulas.specs.Tables.{standing, formula_at}
 use Rattle.simplification.specs.Simplify.{simplify}
 use Rattle.simplification.specs.Tables.{Desk, Done, done, taken_up, simplified}
 use Rattle.claims.specs.declared.claim.Claim.{Claim}
-use Rattle.claims.specs.Claims.{formula}
+use Rattle.claims.specs.declared.fault.Refusal.{Refusal}
+use Rattle.claims.specs.Refusals.{of_formula}
 
 -- the claim's formula, simplified
 abbrev pub simpler : Claim → Desk → Formula
-simpler c d = simplify (formula c d.tables)
+simpler c d = simplify (formula_at c.fills c.root d.tables)
 
 -- what comes of the claim's tables and the map
 abbrev pub outcome : Claim → Desk → Done
@@ -30,7 +30,7 @@ pub record Simplified (c : Claim) (d : Desk) (f : Fills) (new : Claim) (after : 
 
 -- nothing has changed
 pub record Unchanged (c : Claim) (d : Desk) (why : Refusal) (new : Claim) (after : Desk) : Type 0 where
-  pub refused : outcome c d ≡ done (Err why) d
+  pub refused : outcome c d ≡ done (Err (of_formula why)) d
   pub claim : new ≡ c
   pub tables : after ≡ d
 

@@ -4,24 +4,23 @@ ghost use Rattle.systems.specs.Meaning.{point};
 ghost use Rattle.formulas.specs.Lines.{line, state_line, entries};
 ghost use Rattle.formulas.specs.Right.{Right, RightState};
 ghost use Rattle.formulas.specs.Truths.{any, holds_at, at_node, of_node};
-ghost use Rattle.claims.specs.Verdicts.{verdict, judged, byte, node_bytes, bytes, truth_bytes, row_bytes, after};
-ghost use Rattle.formulas.specs.Tables.{contents, over};
+ghost use Rattle.claims.specs.Verdicts.{verdict, judged, byte, node_bytes, bytes, truth_bytes, row_bytes, over, after};
 ghost use Rattle.claims.specs.Sums.{lit, RowAt};
 ghost use Rattle.claims.specs.Rows.{Clear};
 ghost use Rattle.claims.specs.Boards.{truths_in, most_removed, Sits, Board, Before, pasted, Passed};
-ghost use Rattle.claims.specs.Books.{judging, entry, Book, fed, stage, Stands};
+ghost use Rattle.claims.specs.Books.{judging, entry, Book, fed, contents, stage, Stands};
 ghost use Rattle.claims.specs.Law.{Said};
 
 use crate::claim::Claim;
+use crate::fault::Refusal;
 use crate::law::books_stand;
 use crate::row::{Span, clear, some_holds};
 use crate::spot::Spot;
 use crate::sum::is_lit;
+use crate::tables::{Tables, front};
 use crate::verdict::Verdict;
 use formulas::node::{Node, Run, StateNode};
-use formulas::refusal::Refusal;
 use formulas::stands::{formula_in, truth_stands};
-use formulas::tables::{Tables, front};
 use systems::system::System;
 
 // The greatest product of masses.
@@ -211,8 +210,8 @@ fn decide<S: System>(
     row: &mut [u8],
 ) -> Verdict
     requires { Passed (S.meaning system.now) claim.now tables (length truth.old) (length row.old) }
-    ensures value { Ok result ≡ judged (S.meaning system.now) claim.now (contents tables.entry) (length truth.old) (length row.old) }
-    ensures truth { truth.new ≡ over (truth_bytes (S.meaning system.now) claim.now (contents tables.entry)) truth.old }
+    ensures value { Ok result ≡ judged (S.meaning system.now) claim.now tables.entry (length truth.old) (length row.old) }
+    ensures truth { truth.new ≡ over (truth_bytes (S.meaning system.now) claim.now tables.entry) truth.old }
     ensures row { row.new ≡ over (row_bytes claim.now) row.old }
 {
     let used = front(claim.fills(), tables);
@@ -241,8 +240,8 @@ fn answer<S: System>(
     truth: &mut [u8],
     row: &mut [u8],
 ) -> Result<Verdict, Refusal>
-    ensures value { result ≡ judged (S.meaning system.now) claim.now (contents tables.entry) (length truth.old) (length row.old) }
-    ensures truth { truth.new ≡ after result (truth_bytes (S.meaning system.now) claim.now (contents tables.entry)) truth.old }
+    ensures value { result ≡ judged (S.meaning system.now) claim.now tables.entry (length truth.old) (length row.old) }
+    ensures truth { truth.new ≡ after result (truth_bytes (S.meaning system.now) claim.now tables.entry) truth.old }
     ensures row { row.new ≡ after result (row_bytes claim.now) row.old }
 {
     let fills = claim.fills();
@@ -276,8 +275,8 @@ pub fn judge<S: System>(
     truth: &mut [u8],
     row: &mut [u8],
 ) -> Result<Verdict, Refusal>
-    ensures value { result ≡ judged (S.meaning system.now) claim.now (contents tables.entry) (length truth.old) (length row.old) }
-    ensures truth { truth.new ≡ after result (truth_bytes (S.meaning system.now) claim.now (contents tables.entry)) truth.old }
+    ensures value { result ≡ judged (S.meaning system.now) claim.now tables.entry (length truth.old) (length row.old) }
+    ensures truth { truth.new ≡ after result (truth_bytes (S.meaning system.now) claim.now tables.entry) truth.old }
     ensures row { row.new ≡ after result (row_bytes claim.now) row.old }
     ensures book { (k : Book) → Stands k (stage claim.now (contents tables.entry)) → Said k claim.now (S.meaning system.now) result × Stands (fed k (entry (judging (S.meaning system.now)) (is_err result))) (stage claim.now (contents tables.entry)) }
 {

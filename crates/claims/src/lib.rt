@@ -2,6 +2,7 @@
 #![tactic(auto)]
 
 pub mod claim;
+pub mod fault;
 pub mod judge;
 pub mod law;
 pub mod opening;
@@ -10,4 +11,5 @@ mod row;
 pub mod simplify;
 mod spot;
 mod sum;
+pub mod tables;
 pub mod verdict;

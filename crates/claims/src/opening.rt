@@ -1,21 +1,20 @@
 // Turning a draft into a claim.
 ghost use Rattle.std.specs.Prelude.{◌≡◌, is_ok, Ok, Err};
-ghost use Rattle.formulas.specs.declared.refusal.Refusal.TheVariants.{NoFormula};
-ghost use Rattle.formulas.specs.Tables.{contents, stands_in};
-ghost use Rattle.claims.specs.Claims.{Opened};
+ghost use Rattle.claims.specs.declared.fault.Refusal.TheVariants.{NoFormula};
+ghost use Rattle.claims.specs.Claims.{stands_in, Opened};
 ghost use Rattle.claims.specs.Law.{LawOfRuns};
 
 use crate::claim::Claim;
+use crate::fault::Refusal;
 use crate::law::runs_stand;
+use crate::tables::Tables;
 use formulas::draft::Draft;
-use formulas::refusal::Refusal;
 use formulas::stands::formula_in;
-use formulas::tables::Tables;
 use systems::actions::ActionSet;
 
 // The claim of a draft, if the tables hold its formula. A refused draft is given back.
 fn claim_of(draft: Draft, tables: Tables, shared: ActionSet) -> Result<Claim, (Draft, Refusal)>
-    ensures accepted { is_ok result ≡ stands_in draft.fills draft.root 1 (contents tables.entry) }
+    ensures accepted { is_ok result ≡ stands_in draft.fills draft.root 1 tables.entry }
     ensures outcome { elim result [ Ok c ↦ Opened draft shared c | Err e ↦ e ≡ (draft, NoFormula) ] }
 {
     let fills = draft.fills();
@@ -36,7 +35,7 @@ fn claim_of(draft: Draft, tables: Tables, shared: ActionSet) -> Result<Claim, (D
 
 // Opens a draft as a new claim, whose runs of calls keep to the law. A refused draft is given back.
 pub fn open(draft: Draft, tables: Tables, shared: ActionSet) -> Result<Claim, (Draft, Refusal)>
-    ensures accepted { is_ok result ≡ stands_in draft.fills draft.root 1 (contents tables.entry) }
+    ensures accepted { is_ok result ≡ stands_in draft.fills draft.root 1 tables.entry }
     ensures outcome { elim result [ Ok c ↦ Opened draft shared c | Err e ↦ e ≡ (draft, NoFormula) ] }
     ensures law { LawOfRuns }
 {

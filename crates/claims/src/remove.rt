@@ -1,15 +1,16 @@
 // Removing a system from a claim: what the rest still owes, written to second tables.
 ghost use Rattle.std.specs.Prelude.{is_err};
-ghost use Rattle.formulas.specs.Tables.{slots, contents};
-ghost use Rattle.claims.specs.Books.{removing, entry, Book, fed, stage, Stands};
+ghost use Rattle.formulas.specs.Tables.{slots};
+ghost use Rattle.claims.specs.Books.{removing, entry, Book, fed, contents, stage, Stands};
 ghost use Rattle.claims.specs.Removals.{Removes};
 ghost use Rattle.claims.specs.Runs.{onward};
 
 use crate::claim::Claim;
+use crate::fault::Refusal;
 use crate::law::books_stand;
+use crate::tables::Tables;
 use formulas::node::{Fills, Node, Term};
-use formulas::refusal::Refusal;
-use formulas::tables::{Standing, Tables};
+use formulas::tables::{Standing, Tables as FormulaTables};
 use quotient::divide::divide;
 use systems::system::System;
 
@@ -28,13 +29,18 @@ fn answer<S: System>(
         fills: claim.fills(),
         root: claim.root(),
     };
+    let lent = FormulaTables {
+        nodes: tables.nodes,
+        terms: tables.terms,
+        alternatives: tables.alternatives,
+    };
     let mass = claim.mass();
     let shared = claim.shared();
     match divide(
         standing,
         mass,
         shared,
-        tables,
+        lent,
         system,
         nodes,
         terms,
@@ -47,7 +53,7 @@ fn answer<S: System>(
                 left.fills,
             ))
         }
-        Err(why) => Err((claim, why)),
+        Err(why) => Err((claim, Refusal::of(why))),
     }
 }
 

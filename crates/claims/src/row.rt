@@ -10,8 +10,8 @@ ghost use Rattle.claims.specs.Boards.{truths_in, Board, Before};
 
 use crate::spot::Spot;
 use crate::sum::sum_holds;
+use crate::tables::Tables;
 use formulas::node::{DistNode, Node, Run, Term};
-use formulas::tables::Tables;
 use systems::system::System;
 
 // In a row, a node whose truth is wanted.

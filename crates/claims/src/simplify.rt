@@ -7,9 +7,9 @@ ghost use Rattle.claims.specs.Law.{LeftSettled};
 ghost use Rattle.claims.specs.Simplifications.{Simplifies};
 
 use crate::claim::Claim;
+use crate::fault::Refusal;
 use crate::law::books_stand;
 use formulas::node::{Fills, Node, Term};
-use formulas::refusal::Refusal;
 use formulas::tables::Standing;
 use simplification::in_place::simplify_in_place;
 
@@ -34,7 +34,7 @@ fn answer(
             claim.take_up(new.fills, new.root);
             Ok(new.fills)
         }
-        Err(why) => Err(why),
+        Err(why) => Err(Refusal::of(why)),
     }
 }
 

@@ -1,8 +1,7 @@
 use Rattle.std.proofs.Common.{is_err, Result, sym, subst}
-use Rattle.formulas.specs.declared.refusal.Refusal.{Refusal}
-use Rattle.formulas.specs.Tables.{contents}
+use Rattle.claims.specs.declared.fault.Refusal.{Refusal}
 use Rattle.claims.specs.declared.verdict.Verdict.{Verdict}
-use Rattle.claims.specs.Books.{judging, entry, fed, stage, Stands}
+use Rattle.claims.specs.Books.{judging, entry, fed, contents, stage, Stands}
 use Rattle.claims.specs.Law.{Said}
 use Rattle.claims.proofs.judge.judge.Goals as goal
 
@@ -17,5 +16,5 @@ returns g c =
       row = c.answer.ensures.row;
       book = λ k right.
           let Kept : Result Verdict Refusal → Type 0 = λ r. Said k claim M r × Stands (fed k (entry (judging M) (is_err r))) (stage claim tables) in
-          subst Kept (sym c.answer.ensures.value) (c.books_stand.ensures.judge M claim tables _ _ (g.met.S.System.sound c.args.system.now) k right);
+          subst Kept (sym c.answer.ensures.value) (c.books_stand.ensures.judge M claim c.args.tables _ _ (g.met.S.System.sound c.args.system.now) k right);
     }

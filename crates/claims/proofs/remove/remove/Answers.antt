@@ -1,4 +1,5 @@
-use Rattle.formulas.specs.Tables.{slots, contents}
+use Rattle.formulas.specs.Tables.{slots}
+use Rattle.claims.specs.Books.{contents}
 use Rattle.claims.proofs.remove.remove.Goals as goal
 
 pub returns : goal.returns
