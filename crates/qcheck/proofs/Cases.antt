@@ -26,7 +26,7 @@ unmoved (remove R second after (Ok x) sound p) r = absurd (true≢false (sym r))
 unmoved {g} (remove R second after (Err e) sound p) r = ap (λ c. stage c g.tables) (sym p.claim)
 unmoved (simplify map map' s c (Ok f) p) r = absurd (true≢false (sym r))
 unmoved (simplify map map' s c (Err e) p) r = ap₂ stage (sym p.claim) (ap (λ d. d.tables) (sym p.tables))
-unmoved (judge S truth row r sound p) q = refl
+unmoved (judge S t truth row r sound same p) q = refl
 
 -- so a removal that is tried again is one step from where the first try began
 pub again : {E : Type 0} (R : Meaning) (before : Case) (first : Removing) (r : Result Removing E) → Removal R before first → is_some first.refused ≡ true → IfOk r (Removal R first.case) → IfOk r (Removal R before)

@@ -1,14 +1,15 @@
 // A claim with the tables that hold its formula.
 ghost use Rattle.std.specs.Prelude.{◌≡◌, IfOk};
-ghost use Rattle.formulas.specs.Tables.{slots, contents};
+ghost use Rattle.formulas.specs.Tables.{slots};
+ghost use Rattle.claims.specs.Books.{contents};
 ghost use Rattle.qcheck.specs.Cases.{Simplification, Removal};
 
 use claims::claim::Claim;
+use claims::fault::Refusal;
 use claims::remove::remove;
 use claims::simplify::simplify;
+use claims::tables::Tables;
 use formulas::node::{Fills, Node, StateNode, Term};
-use formulas::refusal::Refusal;
-use formulas::tables::Tables;
 use std::alloc::{AllocError, Global};
 use systems::system::System;
 

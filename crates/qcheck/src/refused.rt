@@ -4,7 +4,6 @@ ghost use Rattle.formulas.specs.Faults.{number as read_number, place as read_pla
 ghost use Rattle.qcheck.specs.Refusals.{by_mount};
 
 use formulas::fault::{Layer, ReadFault};
-use formulas::refusal::Refusal;
 use std::{fmt, io};
 use systems::fault::{Fault, MountFault};
 

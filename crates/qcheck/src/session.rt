@@ -1,4 +1,8 @@
 // A job as it runs: the systems by name, and the claim with its tables.
+ghost use Rattle.std.specs.Prelude.{◌≡◌, is_ok, Ok, Err};
+ghost use Rattle.claims.specs.declared.fault.Refusal.TheVariants.{NoFormula};
+ghost use Rattle.claims.specs.Claims.{stands_in, Opened};
+
 use crate::case::{Case, MOST_ENTRIES, Store, remove_from};
 use crate::refused::{by_mount, by_number, by_read, print_refusal};
 use crate::show::print_claim;
@@ -6,7 +10,9 @@ use crate::stack::{Answer, Bench, judge_stack};
 use crate::words::{action_set, joined, misread, number, promise_text, split, target};
 use anyhow::anyhow;
 use claims::claim::Claim;
+use claims::fault::Refusal;
 use claims::opening::open;
+use claims::tables::Tables;
 use claims::verdict::Verdict;
 use formulas::draft::Draft;
 use formulas::node::Fills;
@@ -241,13 +247,13 @@ impl Session {
 
     fn open_draft(&mut self, rt: &HostRuntime, draft: Draft, store: Store) -> anyhow::Result<()> {
         let fills = draft.fills();
-        match open(draft, store.tables(), self.shared) {
+        match open_on(draft, store.tables(), self.shared) {
             Ok(claim) => {
                 self.case = Some(Case { claim, store });
                 print_fills(rt, "promise", fills)?;
                 println!(rt; "")?;
             }
-            Err(back) => print_refusal(rt, "promise", by_number(back.1.number()))?,
+            Err(refusal) => print_refusal(rt, "promise", by_number(refusal.number()))?,
         }
         Ok(())
     }
@@ -347,6 +353,17 @@ impl Session {
             None => println!(rt; "show: no claim")?,
         }
         Ok(())
+    }
+}
+
+// Opens a draft; a refused one is let go.
+fn open_on(draft: Draft, tables: Tables, shared: ActionSet) -> Result<Claim, Refusal>
+    ensures accepted { is_ok result ≡ stands_in draft.fills draft.root 1 tables.entry }
+    ensures outcome { elim result [ Ok c ↦ Opened draft shared c | Err e ↦ e ≡ NoFormula ] }
+{
+    match open(draft, tables, shared) {
+        Ok(claim) => Ok(claim),
+        Err(back) => Err(back.1),
     }
 }
 

@@ -1,7 +1,7 @@
 // How the tables of a claim are printed.
 use claims::claim::Claim;
+use claims::tables::Tables;
 use formulas::node::{DistNode, Node, Run, StateNode};
-use formulas::tables::Tables;
 use std::io;
 
 // The alternatives of a run, or a dash for none.

@@ -1,14 +1,13 @@
 // Judging a claim on systems piled over one another.
 ghost use Rattle.std.specs.Prelude.{◌≡◌, ◌≤◌, length, IfOk};
 ghost use Rattle.systems.specs.Any.{any_meaning};
-ghost use Rattle.formulas.specs.Tables.{contents};
-ghost use Rattle.qcheck.specs.Answers.{answer_on, answer_over, answer_to, meanings};
+ghost use Rattle.qcheck.specs.Answers.{answer_on, answer_over, answer_to, meanings, ToldOver};
 
 use crate::refused::{Refused, by_number};
 use claims::claim::Claim;
 use claims::judge::judge;
+use claims::tables::Tables;
 use claims::verdict::Verdict;
-use formulas::tables::Tables;
 use std::alloc::{AllocError, Global};
 use std::rc::Rc;
 use systems::any::AnySystem;
@@ -39,7 +38,7 @@ pub enum Answer {
 
 // Judges on one system, with tables of its own.
 fn judge_one<S: System>(bench: &Bench, system: &S) -> Result<Answer, AllocError>
-    ensures { IfOk result (λ a. a ≡ answer_on (S.System.meaning system.now) bench.now.claim.now (contents bench.now.tables)) }
+    ensures { IfOk result (λ a. a ≡ answer_on (S.System.meaning system.now) bench.now.claim.now bench.now.tables) }
 {
     let nodes = bench.claim.fills().nodes;
     let need = nodes as u64 * system.states() as u64;
@@ -77,7 +76,7 @@ fn judge_six<S: System + Drop>(
     system: S,
 ) -> Result<Answer, AllocError>
     requires { length stack.old.items ≤ 0 }
-    ensures { IfOk result (λ a. a ≡ answer_over (meanings stack.old.items) (S.System.meaning system) bench.now.claim.now (contents bench.now.tables)) }
+    ensures { IfOk result (λ a. a ≡ answer_over (meanings stack.old.items) (S.System.meaning system) bench.now.claim.now bench.now.tables) }
 {
     judge_one(bench, &system)
 }
@@ -88,7 +87,7 @@ fn judge_five<S: System + Drop>(
     system: S,
 ) -> Result<Answer, AllocError>
     requires { length stack.old.items ≤ 1 }
-    ensures { IfOk result (λ a. a ≡ answer_over (meanings stack.old.items) (S.System.meaning system) bench.now.claim.now (contents bench.now.tables)) }
+    ensures { IfOk result (λ a. a ≡ answer_over (meanings stack.old.items) (S.System.meaning system) bench.now.claim.now bench.now.tables) }
 {
     judge_piled!(bench, stack, system, judge_six)
 }
@@ -99,7 +98,7 @@ fn judge_four<S: System + Drop>(
     system: S,
 ) -> Result<Answer, AllocError>
     requires { length stack.old.items ≤ 2 }
-    ensures { IfOk result (λ a. a ≡ answer_over (meanings stack.old.items) (S.System.meaning system) bench.now.claim.now (contents bench.now.tables)) }
+    ensures { IfOk result (λ a. a ≡ answer_over (meanings stack.old.items) (S.System.meaning system) bench.now.claim.now bench.now.tables) }
 {
     judge_piled!(bench, stack, system, judge_five)
 }
@@ -110,7 +109,7 @@ fn judge_three<S: System + Drop>(
     system: S,
 ) -> Result<Answer, AllocError>
     requires { length stack.old.items ≤ 3 }
-    ensures { IfOk result (λ a. a ≡ answer_over (meanings stack.old.items) (S.System.meaning system) bench.now.claim.now (contents bench.now.tables)) }
+    ensures { IfOk result (λ a. a ≡ answer_over (meanings stack.old.items) (S.System.meaning system) bench.now.claim.now bench.now.tables) }
 {
     judge_piled!(bench, stack, system, judge_four)
 }
@@ -121,7 +120,7 @@ fn judge_two<S: System + Drop>(
     system: S,
 ) -> Result<Answer, AllocError>
     requires { length stack.old.items ≤ 4 }
-    ensures { IfOk result (λ a. a ≡ answer_over (meanings stack.old.items) (S.System.meaning system) bench.now.claim.now (contents bench.now.tables)) }
+    ensures { IfOk result (λ a. a ≡ answer_over (meanings stack.old.items) (S.System.meaning system) bench.now.claim.now bench.now.tables) }
 {
     judge_piled!(bench, stack, system, judge_three)
 }
@@ -132,7 +131,7 @@ fn judge_over(
     lowest: Rc<AnySystem>,
 ) -> Result<Answer, AllocError>
     requires { length stack.old.items ≤ 5 }
-    ensures { IfOk result (λ a. a ≡ answer_over (meanings stack.old.items) (any_meaning lowest.value) bench.now.claim.now (contents bench.now.tables)) }
+    ensures { IfOk result (λ a. a ≡ answer_over (meanings stack.old.items) (any_meaning lowest.value) bench.now.claim.now bench.now.tables) }
 {
     judge_piled!(bench, stack, lowest, judge_two)
 }
@@ -143,7 +142,8 @@ pub fn judge_stack(
     stack: &mut Vec<Rc<AnySystem>>,
     lowest: Rc<AnySystem>,
 ) -> Result<Answer, AllocError>
-    ensures { IfOk result (λ a. a ≡ answer_to (meanings stack.old.items) (any_meaning lowest.value) bench.now.claim.now (contents bench.now.tables)) }
+    ensures told { IfOk result (ToldOver stack.old.items (any_meaning lowest.value) bench.now.claim.now bench.now.tables) }
+    ensures answer { IfOk result (λ a. a ≡ answer_to (meanings stack.old.items) (any_meaning lowest.value) bench.now.claim.now bench.now.tables) }
 {
     if stack.len() > MOST_PILED {
         return Ok(Answer::TooMany);
