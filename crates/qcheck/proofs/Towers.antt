@@ -13,13 +13,12 @@ use Rattle.systems.specs.Faults.{number}
 use Rattle.systems.specs.Meaning.{Meaning}
 use Rattle.systems.specs.Piles.{pile, refusal}
 use Rattle.systems.specs.Stacks.{stack}
-use Rattle.formulas.specs.Truths.{holds}
 use Rattle.claims.specs.declared.claim.Claim.{Claim}
 use Rattle.claims.specs.declared.fault.Refusal.{Refusal}
 use Rattle.claims.specs.declared.tables.Tables.{Tables}
 use Rattle.claims.specs.declared.verdict.Verdict.{Verdict}
-use Rattle.claims.specs.Claims.{stands_in, formula}
-use Rattle.claims.specs.Verdicts.{verdict, judged}
+use Rattle.claims.specs.Claims.{stands_in}
+use Rattle.claims.specs.Verdicts.{judged}
 use Rattle.qcheck.specs.declared.stack.Answer.{Answer}
 use Rattle.qcheck.specs.declared.stack.Answer.TheVariants.{TooMany}
 use Rattle.qcheck.specs.Answers.{refused, told, answer_on, either_fault, pile_fault, unless, answer_over, answer_to, meanings, Told, tower, ToldOver}
