@@ -33,7 +33,7 @@ def read(path):
 
 
 def snake(word):
-    return re.sub(r"(?<=[a-z0-9])([A-Z])", lambda m: "_" + m.group(1).lower(), word)
+    return re.sub(r"(?<=[a-z0-9])([A-Z])", lambda m: "_" + m.group(1).lower(), word.replace("getD", "get_or"))
 
 
 def is_word(part):
@@ -81,6 +81,12 @@ def gather():
                 else:
                     is_type = re.search(r"Type( \d+)?\s*$", signature) is not None
                     found[name] = ("type" if is_type and name[:1].isupper() else "word", lemma_file and not is_type)
+            elif not body:
+                m = re.match(r"^\s+(?:(?:abbrev|unfoldable|pub) )*([^\s:(){}]+) :(?: (.*))?$", line)
+                if m and not (made and (m.group(2) or "").startswith("goal.")):
+                    signature = m.group(2) or ""
+                    is_type = re.search(r"Type( \d+)?\s*$", signature) is not None
+                    found.setdefault(m.group(1), ("type" if is_type and m.group(1)[:1].isupper() else "word", lemma_file and not is_type))
             elif body:
                 m = re.match(r"^\s+(?:pub )?([^\s:(){}]+(?: [^\s:(){}]+)*)\s*:", line)
                 if m:
@@ -144,7 +150,20 @@ def is_field(word):
     return word in FIELDS
 
 
+def of_library(text):
+    """The names that a file takes from a library: those keep their spelling there."""
+    own = "|".join(sorted(os.listdir("crates")))
+    taken = set()
+    for line in text.split("\n"):
+        m = re.match(r"(?:ghost |pub )*use (\S+)", line)
+        if m and not re.match(rf"Rattle\.({own})\.", m.group(1)):
+            taken |= set(TOKEN.findall(line))
+    return taken
+
+
 def turn(path, turned):
+    theirs = of_library(read(path))
+    turned = {old: new for old, new in turned.items() if old not in theirs}
     comment = "--" if path.endswith(".antt") else "//"
     lines = []
     for line in read(path).split("\n"):

@@ -11,11 +11,11 @@ some_of of ds mv = any (λ d. of d mv) ds
 
 -- none before the place i passes
 module _ {X : Type 0} (p : X → Bool) (xs : List X) (i : ℕ) where
-  pub any-hit : (d : X) → any p xs ≡ any p (drop i xs) → i < length xs → p (get_or xs i d) ≡ true → true ≡ any p xs
-  any-hit d before h e = sym (before ∙ at_drop_more (any p) xs i d h ∙ ap (λ b. b || any p (drop (i + 1) xs)) e)
+  pub any_hit : (d : X) → any p xs ≡ any p (drop i xs) → i < length xs → p (get_or xs i d) ≡ true → true ≡ any p xs
+  any_hit d before h e = sym (before ∙ at_drop_more (any p) xs i d h ∙ ap (λ b. b || any p (drop (i + 1) xs)) e)
 
-  pub any-miss : (d : X) → any p xs ≡ any p (drop i xs) → i < length xs → p (get_or xs i d) ≡ false → any p xs ≡ any p (drop (i + 1) xs)
-  any-miss d before h e = before ∙ at_drop_more (any p) xs i d h ∙ ap (λ b. b || any p (drop (i + 1) xs)) e
+  pub any_miss : (d : X) → any p xs ≡ any p (drop i xs) → i < length xs → p (get_or xs i d) ≡ false → any p xs ≡ any p (drop (i + 1) xs)
+  any_miss d before h e = before ∙ at_drop_more (any p) xs i d h ∙ ap (λ b. b || any p (drop (i + 1) xs)) e
 
   pub any_none : any p xs ≡ any p (drop i xs) → length xs ≤ i → false ≡ any p xs
   any_none before h = sym (before ∙ at_drop_all (any p) xs i h)

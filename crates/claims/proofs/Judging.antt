@@ -77,8 +77,8 @@ module _ (M : Meaning) (c : Claim) (t u : Tables) (size len : ℕ) (p : Passed M
       })
 
   -- all that it takes to evaluate
-  pub ready-to-evaluate : 1 ≤ M.mass → (root : ℕ) → root ≡ c.root → record { sits : Sits M u; root : root < length u.nodes.now; room : length u.nodes.now * M.states ≤ size; long : length u.nodes.now ≤ len }
-  ready-to-evaluate some root e =
+  pub ready_to_evaluate : 1 ≤ M.mass → (root : ℕ) → root ≡ c.root → record { sits : Sits M u; root : root < length u.nodes.now; room : length u.nodes.now * M.states ≤ size; long : length u.nodes.now ≤ len }
+  ready_to_evaluate some root e =
       let tests = or_parts (ltb size (c.fills.nodes * M.states)) (ltb len c.fills.nodes) p.room in
       let Inside : ℕ → Type 0 = λ r. r < length u.nodes.now in
       record {

@@ -47,16 +47,16 @@ module _ (wanted : List ℕ) (i : ℕ) (h : i < length wanted) where
   pub mark-more : (old row : List ℕ) → row ≡ marked old (take i wanted) → set row (get_or wanted i 0) 2 ≡ marked old (take (i + 1) wanted)
   mark-more old row e = ap (λ r. set r (get_or wanted i 0) 2) e ∙ sym (fold_more (λ r k. set r k 2) old wanted i 0 h)
 
-  pub around-more : (low high low' high' : ℕ) → low' ≡ min low (get_or wanted i 0) → high' ≡ max high (get_or wanted i 0 + 1) → AllByRecursion (λ d. (low ≤ d) × (d < high)) (take i wanted) → AllByRecursion (λ d. (low' ≤ d) × (d < high')) (take (i + 1) wanted)
-  around-more low high low' high' e f all =
+  pub around_more : (low high low' high' : ℕ) → low' ≡ min low (get_or wanted i 0) → high' ≡ max high (get_or wanted i 0 + 1) → AllByRecursion (λ d. (low ≤ d) × (d < high)) (take i wanted) → AllByRecursion (λ d. (low' ≤ d) × (d < high')) (take (i + 1) wanted)
+  around_more low high low' high' e f all =
       All-more (λ d. (low' ≤ d) × (d < high')) wanted i 0 h
       (All-weaker (λ d. (low ≤ d) × (d < high)) (λ d. (low' ≤ d) × (d < high')) (λ d a. (omega (arith, a.0), omega (arith, a.1))) (take i wanted) all)
       (omega arith, omega arith)
 
 -- node i is passed on the way down
 module _ (ns : List Node) (parted : Parted ns) (start low high i j : ℕ) (old row : List ℕ) (s : Spread ns j start low high old row) (e : j ≡ i + 1) (h : i < high) (hn : high ≤ length ns) where
-  pub spread-off : (get_or row i 0 ≡ 2 → ⊥) → Spread ns i start low high old row
-  spread-off no-mark = record {
+  pub spread_off : (get_or row i 0 ≡ 2 → ⊥) → Spread ns i start low high old row
+  spread_off no-mark = record {
     lower = s.lower;
     stays = s.stays;
     closed = λ k l u m. ⊎_elim (λ e. absurd (no-mark (subst (Mark row) e m))) (λ ne. s.closed k (omega arith) u m) (cases_eq k i);
@@ -64,8 +64,8 @@ module _ (ns : List Node) (parted : Parted ns) (start low high i j : ℕ) (old r
     above = s.above;
   }
 
-  pub spread-on : (low' : ℕ) (row' : List ℕ) → high ≤ length row → low' ≡ lowest low (parts (get_or ns i no_node)) → row' ≡ marked row (parts (get_or ns i no_node)) → Spread ns i start low' high old row'
-  spread-on low' row' hl el er =
+  pub spread_on : (low' : ℕ) (row' : List ℕ) → high ≤ length row → low' ≡ lowest low (parts (get_or ns i no_node)) → row' ≡ marked row (parts (get_or ns i no_node)) → Spread ns i start low' high old row'
+  spread_on low' row' hl el er =
       let ps = parts (get_or ns i no_node) in
       let Low : ℕ → Type 0 = λ n. Spread ns i start n high old row' in
       let Row : List ℕ → Type 0 = λ r. Spread ns i start (lowest low ps) high old r in

@@ -15,7 +15,7 @@ use Rattle.claims.specs.Rows.{lit_row, Mark, marked, parts, no_node, Spread, Rea
 use Rattle.claims.specs.Boards.{truths_in, Sits, Agrees}
 use Rattle.claims.proofs.Anys.{any_same}
 use Rattle.claims.proofs.Marks.{marked_all, marked_other}
-use Rattle.claims.proofs.Truthful.{byte-lit, row-byte-is, sits_parted}
+use Rattle.claims.proofs.Truthful.{byte-lit, row_byte-is, sits_parted}
 
 all_both : (P Q R : ℕ → Type 0) → ((p : ℕ) → P p → Q p → R p) → (ps : List ℕ) → AllByRecursion P ps → AllByRecursion Q ps → AllByRecursion R ps
 all_both P Q R f [] a b = tt
@@ -23,8 +23,8 @@ all_both P Q R f (p ∷ ps) a b = (f p a.0 b.0, all_both P Q R f ps a.1 b.1)
 
 -- node j is passed on the way up
 module _ (M : Meaning) (t : Tables) (sits : Sits M t) (mv : Move) (within : AllByRecursion (λ u. u.state < M.states) mv) (table : List ℕ) (low j : ℕ) (old row : List ℕ) (f : Filling (truths_in M t) mv low j old row) where
-  fill-off : (get_or row j 0 ≡ 2 → ⊥) → Filling (truths_in M t) mv low (j + 1) old row
-  fill-off ne = record {
+  fill_off : (get_or row j 0 ≡ 2 → ⊥) → Filling (truths_in M t) mv low (j + 1) old row
+  fill_off ne = record {
     told = λ k l m. ⊎_elim (λ e. absurd (ne (f.above j (omega arith) ∙ subst (Mark old) e m))) (λ u. f.told k (omega arith) m) (cases_eq k j);
     below = f.below;
     above = λ k l. f.above k (omega arith);
@@ -45,8 +45,8 @@ module _ (M : Meaning) (t : Tables) (sits : Sits M t) (mv : Move) (within : AllB
       (λ on.
       let mark : Mark old j = sym (f.above j (omega arith)) ∙ eqb-true (get_or row j 0) 2 on in
       let known = all_both (λ p. p < j) (Mark old) (λ p. get_or row p 0 ≡ byte (of_node (truths_in M t) p mv)) (λ p l m. f.told p l m) (parts (get_or t.nodes.now j no_node)) (sits_parted M t sits j here) (closed j hi mark) in
-      subst Good (sym (e ∙ cond-true (eqb (get_or row j 0) 2) (set row j v) row on)) (fill_on v lo h (row-byte-is M t table j agrees sits here mv within row known)))
-      (λ off. subst Good (sym (e ∙ cond-false (eqb (get_or row j 0) 2) (set row j v) row off)) (fill-off (eqb-false (get_or row j 0) 2 off)))
+      subst Good (sym (e ∙ cond-true (eqb (get_or row j 0) 2) (set row j v) row on)) (fill_on v lo h (row_byte-is M t table j agrees sits here mv within row known)))
+      (λ off. subst Good (sym (e ∙ cond-false (eqb (get_or row j 0) 2) (set row j v) row off)) (fill_off (eqb-false (get_or row j 0) 2 off)))
       (cases_Bool (eqb (get_or row j 0) 2))
 
 -- `&s[first..first + count]`
@@ -84,8 +84,8 @@ module _ (ns : List Node) (wanted old marks filled : List ℕ) (upto low high : 
   reached-any answer e =
       e ∙ any_same (λ d. (d < high) × Mark marks d) (lit_row filled) (λ d. of_node T d mv) (λ d a. byte-lit (of_node T d mv) _ (f.told d a.0 a.1)) wanted r.named
 
-  pub reached-clear : (row : List ℕ) → length row ≡ length old → Cleared low high filled row → row ≡ old
-  reached-clear row e c =
+  pub reached_clear : (row : List ℕ) → length row ≡ length old → Cleared low high filled row → row ≡ old
+  reached_clear row e c =
       ext_get_or 0 row old e
       (λ k _. ⊎_elim
       (λ lo. c.below k lo ∙ f.below k lo ∙ r.below k lo)

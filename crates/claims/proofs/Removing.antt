@@ -58,16 +58,16 @@ module _ (R : Meaning) (c : Claim) (s second : Slots) (x : Standing) (e : remova
 
 -- what the parts of the claim were asked for
 module _ (R : Meaning) (c : Claim) (s second : Slots) (f : Fills) (root m : ℕ) (A : ActionSet) (ef : f ≡ c.fills) (er : root ≡ c.root) (em : m ≡ c.mass) (eA : A ≡ c.shared) where
-  pub as-claimed : divided A R f root m s second ≡ removal R c s second
-  as-claimed = ap₂ (λ x y. divided A R x y m s second) ef er ∙ ap₂ (λ x B. divided B R c.fills c.root x s second) em eA
+  pub as_claimed : divided A R f root m s second ≡ removal R c s second
+  as_claimed = ap₂ (λ x y. divided A R x y m s second) ef er ∙ ap₂ (λ x B. divided B R c.fills c.root x s second) em eA
 
-  pub rest-claimed : remainder A R f root s ≡ rest R c s
-  rest-claimed = ap₂ (λ x y. remainder A R x y s) ef er ∙ ap (λ B. remainder B R c.fills c.root s) eA
+  pub rest_claimed : remainder A R f root s ≡ rest R c s
+  rest_claimed = ap₂ (λ x y. remainder A R x y s) ef er ∙ ap (λ B. remainder B R c.fills c.root s) eA
 
   pub removes : (x : Standing) (new : Claim) (last : Slots) → Ok x ≡ divided A R f root m s second → last ≡ laid (remainder A R f root s).lines second
       → new.fills ≡ x.fills → new.root ≡ x.root → new.mass ≡ c.mass * R.mass → new.shared ≡ A → Removed R c s second new x.fills last
   removes x new last e tables fills root mass shared =
-      let done = sym as-claimed ∙ sym e in
+      let done = sym as_claimed ∙ sym e in
       let same = is R c s second x done in
       record {
         accepted = made R c s second x done;
@@ -76,5 +76,5 @@ module _ (R : Meaning) (c : Claim) (s second : Slots) (f : Fills) (root m : ℕ)
         root = root ∙ ap (λ y. y.root) same;
         mass = mass;
         shared = shared ∙ eA;
-        tables = tables ∙ ap (λ F. laid F.lines second) rest-claimed;
+        tables = tables ∙ ap (λ F. laid F.lines second) rest_claimed;
       }

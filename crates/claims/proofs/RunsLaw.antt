@@ -56,36 +56,36 @@ module _
         ruled : AllByRecursion Ruled k.removed
         stands : Stands k h
 
-      step-faithful : {k : Book} {e : Entry} {h i : Stage} → Faithful k h → Step h e i → Faithful (fed k e) i
-      step-faithful {k} {h} p (remove R second after (Ok x) sound q) = record {
+      step_faithful : {k : Book} {e : Entry} {h i : Stage} → Faithful k h → Step h e i → Faithful (fed k e) i
+      step_faithful {k} {h} p (remove R second after (Ok x) sound q) = record {
         first = p.first;
         shared = q.shared ∙ p.shared;
         ruled = All-append Ruled k.removed (R ∷ []) p.ruled (sound.ruled, tt);
         stands = remove-keeps held back quotients shape piles R h.claim h.tables second after (Ok x) sound q k p.stands;
       }
-      step-faithful {k} {h} p (remove R second after (Err e) sound q) = record {
+      step_faithful {k} {h} p (remove R second after (Err e) sound q) = record {
         first = p.first;
         shared = ap (λ c. c.shared) q.claim ∙ p.shared;
         ruled = p.ruled;
         stands = remove-keeps held back quotients shape piles R h.claim h.tables second after (Err e) sound q k p.stands;
       }
-      step-faithful {k} {h} p (simplify map map' s c (Ok f) q) = record {
+      step_faithful {k} {h} p (simplify map map' s c (Ok f) q) = record {
         first = p.first;
         shared = q.shared ∙ p.shared;
         ruled = p.ruled;
         stands = simplify-keeps held back keeps weighed h.claim c h.tables s map map' (Ok f) q k p.stands;
       }
-      step-faithful {k} {h} p (simplify map map' s c (Err e) q) = record {
+      step_faithful {k} {h} p (simplify map map' s c (Err e) q) = record {
         first = p.first;
         shared = ap (λ d. d.shared) q.claim ∙ p.shared;
         ruled = p.ruled;
         stands = simplify-keeps held back keeps weighed h.claim c h.tables s map map' (Err e) q k p.stands;
       }
-      step-faithful p (judge S t truth row r sound same q) = p
+      step_faithful p (judge S t truth row r sound same q) = p
 
-      run-faithful : {k : Book} {h : Stage} → New A g → Run g k h → Faithful k h
-      run-faithful new begin = record { first = refl; shared = new.opened.shared; ruled = tt; stands = λ S ruled. refl }
-      run-faithful new (call run step) = step-faithful (run-faithful new run) step
+      run_faithful : {k : Book} {h : Stage} → New A g → Run g k h → Faithful k h
+      run_faithful new begin = record { first = refl; shared = new.opened.shared; ruled = tt; stands = λ S ruled. refl }
+      run_faithful new (call run step) = step_faithful (run_faithful new run) step
 
       module _ {k : Book} {h : Stage} (p : Faithful k h) where
         truth-after : (S : Meaning) → Ruled S → holds S (formula_on h) ≡ holds (stack (has A) k.removed S) (formula_on g)
@@ -100,7 +100,7 @@ module _
 
     runs : (A : ActionSet) (g h : Stage) (k : Book) → New A g → Run g k h → After A g h k
     runs A g h k new run =
-        let p = run-faithful A g new run in
+        let p = run_faithful A g new run in
         record {
           truth = truth-after A g p;
           verdicts = λ S t size len v sound same e. told S h t same size len v e ∙ ap verdict (truth-after A g p S sound.ruled);
@@ -113,8 +113,8 @@ module _
     orders : (A : ActionSet) (g h g' h' : Stage) (k k' : Book)
         → New A g → Run g k h → New A g' → Run g' k' h' → formula_on g ≡ formula_on g' → Reordered k.removed k'.removed → Agreement h h'
     orders A g h g' h' k k' new run new' run' same other =
-        let p = run-faithful A g new run in
-        let p' = run-faithful A g' new' run' in
+        let p = run_faithful A g new run in
+        let p' = run_faithful A g' new' run' in
         let agree : (S : Meaning) → Ruled S → holds S (formula_on h) ≡ holds S (formula_on h') = λ S ruled.
         truth-after A g p S ruled
         ∙ order (has A) S k.removed other.0 (formula_on g) (shape S ruled) (All-weaker Ruled Shaped shape k.removed p.ruled) other.1 (new-formed A g new)

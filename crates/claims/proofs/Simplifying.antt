@@ -17,15 +17,15 @@ module _ (y : Standing) (d z : Desk) where
   abbrev tests : Bool → Bool → Done
   tests a b = cond (not a) (done (Err NoFormula) d) (cond b (done (Err Short) d) (done (Ok y) z))
 
-  chosen-ok : (a b : Bool) (x : Standing) (e : Desk) → done (Ok x) e ≡ tests a b → tests a b ≡ done (Ok y) z
-  chosen-ok true false x e h = refl
-  chosen-ok true true x e h = absurd (true≢false (ap (λ o. is_ok o.answer) h))
-  chosen-ok false b x e h = absurd (true≢false (ap (λ o. is_ok o.answer) h))
+  chosen_ok : (a b : Bool) (x : Standing) (e : Desk) → done (Ok x) e ≡ tests a b → tests a b ≡ done (Ok y) z
+  chosen_ok true false x e h = refl
+  chosen_ok true true x e h = absurd (true≢false (ap (λ o. is_ok o.answer) h))
+  chosen_ok false b x e h = absurd (true≢false (ap (λ o. is_ok o.answer) h))
 
-  chosen-err : (a b : Bool) (x : FormulaRefusal) (e : Desk) → done (Err x) e ≡ tests a b → e ≡ d
-  chosen-err true false x e h = absurd (true≢false (ap (λ o. is_err o.answer) h))
-  chosen-err true true x e h = ap (λ o. o.left) h
-  chosen-err false b x e h = ap (λ o. o.left) h
+  chosen_err : (a b : Bool) (x : FormulaRefusal) (e : Desk) → done (Err x) e ≡ tests a b → e ≡ d
+  chosen_err true false x e h = absurd (true≢false (ap (λ o. is_err o.answer) h))
+  chosen_err true true x e h = ap (λ o. o.left) h
+  chosen_err false b x e h = ap (λ o. o.left) h
 
 -- a formula that uses no more of its tables than one that uses few uses few
 pub few-left : (new old few : Fills) → Fewer new old → old ≡ few
@@ -41,15 +41,15 @@ standing_in x (Ok y) = y
 standing_in x (Err e) = x
 
 module _ (c : Claim) (d after : Desk) (f : Fills) (root m : ℕ) (ef : f ≡ c.fills) (er : root ≡ c.root) (em : m ≡ c.mass) where
-  as-claimed : simplified f root m d ≡ outcome c d
-  as-claimed = ap₂ (λ x y. simplified x y m d) ef er ∙ ap (λ x. simplified c.fills c.root x d) em
+  as_claimed : simplified f root m d ≡ outcome c d
+  as_claimed = ap₂ (λ x y. simplified x y m d) ef er ∙ ap (λ x. simplified c.fills c.root x d) em
 
   pub accepts : (new : Standing) (claim : Claim) → done (Ok new) after ≡ simplified f root m d
       → claim.fills ≡ new.fills → claim.root ≡ new.root → claim.mass ≡ c.mass → claim.shared ≡ c.shared → Simplified c d new.fills claim after
   unfolding standing_in
   accepts new claim e fills root mass shared =
-      let taken = chosen-ok (standing (simpler c d)) d (taken_up (simpler c d) c.fills d) (stands_in c.fills c.root c.mass d.tables) (ltb (length d.map) c.fills.nodes) new after (e ∙ as-claimed) in
-      let same : done (Ok new) after ≡ done (Ok (standing (simpler c d))) (taken_up (simpler c d) c.fills d) = e ∙ as-claimed ∙ taken in
+      let taken = chosen_ok (standing (simpler c d)) d (taken_up (simpler c d) c.fills d) (stands_in c.fills c.root c.mass d.tables) (ltb (length d.map) c.fills.nodes) new after (e ∙ as_claimed) in
+      let same : done (Ok new) after ≡ done (Ok (standing (simpler c d))) (taken_up (simpler c d) c.fills d) = e ∙ as_claimed ∙ taken in
       let is : new ≡ standing (simpler c d) = ap (λ o. standing_in new o.answer) same in
       record {
         accepted = taken;
@@ -63,5 +63,5 @@ module _ (c : Claim) (d after : Desk) (f : Fills) (root m : ℕ) (ef : f ≡ c.f
 
   pub refuses : (why : Refusal) (claim : Claim) → done (Err (of_formula why)) after ≡ simplified f root m d → claim ≡ c → Unchanged c d why claim after
   refuses why claim e same =
-      let left = chosen-err (standing (simpler c d)) d (taken_up (simpler c d) c.fills d) (stands_in c.fills c.root c.mass d.tables) (ltb (length d.map) c.fills.nodes) (of_formula why) after (e ∙ as-claimed) in
-      record { refused = sym (ap (done (Err (of_formula why))) (sym left) ∙ e ∙ as-claimed); claim = same; tables = left }
+      let left = chosen_err (standing (simpler c d)) d (taken_up (simpler c d) c.fills d) (stands_in c.fills c.root c.mass d.tables) (ltb (length d.map) c.fills.nodes) (of_formula why) after (e ∙ as_claimed) in
+      record { refused = sym (ap (done (Err (of_formula why))) (sym left) ∙ e ∙ as_claimed); claim = same; tables = left }

@@ -19,8 +19,8 @@ module _ (M : Meaning) (sound : Sound M) where
   pub some-mass : 1 ≤ M.mass
   some-mass = sound.ruled.mass_low
 
-  pub little-mass : M.mass ≤ 1000000000000000
-  little-mass = sound.limited.mass_high
+  pub little_mass : M.mass ≤ 1000000000000000
+  little_mass = sound.limited.mass_high
 
 pub record Light (M : Meaning) (mv : Move) : Type 0 where
   pub whole : sum_by (λ t. t.weight) mv ≤ M.mass

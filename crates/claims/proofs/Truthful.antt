@@ -69,8 +69,8 @@ module _ (M : Meaning) (t : Tables) (table : List ℕ) (j : ℕ) (agrees : Agree
 
   -- node j on a move, from its parts in the row; and in a state
   module _ (sits : Sits M t) (h : j < length t.nodes.now) where
-    pub row-byte-is : (mv : Move) → AllByRecursion (λ u. u.state < M.states) mv → (row : List ℕ) → AllByRecursion (λ p. get_or row p 0 ≡ byte (of_node (truths_in M t) p mv)) (parts (get_or t.nodes.now j no_node)) → row_byte M t.terms.now t.alternatives.now table row (get_or t.nodes.now j no_node) mv ≡ byte (of_node (truths_in M t) j mv)
-    row-byte-is mv w row a =
+    pub row_byte-is : (mv : Move) → AllByRecursion (λ u. u.state < M.states) mv → (row : List ℕ) → AllByRecursion (λ p. get_or row p 0 ≡ byte (of_node (truths_in M t) p mv)) (parts (get_or t.nodes.now j no_node)) → row_byte M t.terms.now t.alternatives.now table row (get_or t.nodes.now j no_node) mv ≡ byte (of_node (truths_in M t) j mv)
+    row_byte-is mv w row a =
         ap byte (of-same (most_removed M) mv w row (get_or t.nodes.now j no_node) (sits.right j no_node h) a ∙ sym (ap (λ u. u.of mv) (sits.solved j no_node h)))
 
     pub state-is : (s : ℕ) → s < M.states → holds_at M (lit table M.states) (of_node (truths_in M t)) (line t.terms.now t.alternatives.now (get_or t.nodes.now j no_node)) s ≡ at_node (truths_in M t) j s

@@ -9,7 +9,7 @@ use Rattle.formulas.specs.declared.token.Token.TheVariants.{Open, Close, True, F
 use Rattle.formulas.specs.Grammar.{item}
 use Rattle.formulas.specs.Spelling.{word, Small, parts, Spells}
 use Rattle.formulas.specs.Tokens.{same, digit, digits, decimal, canonical, numeral_of, numeral_token, reserved, entry, token_of}
-use Rattle.formulas.specs.Trees.{Tree, leaf, conj, neg, dia, here, at_least, Products, none, product, leaf_token, summed, spell, spell-products, In-range, In-ranges, coefficients}
+use Rattle.formulas.specs.Trees.{Tree, leaf, conj, neg, dia, here, at_least, Products, none, product, leaf_token, summed, spell, spell_products, InRange, InRanges, coefficients}
 use Rattle.formulas.specs.Words.{onward, part}
 
 own : IsNumeralModel (λ ds. digits ds ≡ true) (decimal 0)
@@ -180,16 +180,16 @@ summed-small (product c s none) l h = h
 summed-small (product c s (product d r ks)) l h = (tt, (tt, close-small l h))
 
 mutual
-  spell-small : (x : Tree) → In-range x → AllSmall (spell x)
+  spell-small : (x : Tree) → InRange x → AllSmall (spell x)
   spell-small (leaf b) h = leaf_small b
   spell-small (conj x y) h = (tt, (tt, small-append (spell x) _ (spell-small x h.0) (close-small (spell y) (spell-small y h.1))))
   spell-small (neg x) h = (tt, (tt, close-small (spell x) (spell-small x h)))
   spell-small (dia a d) h = (tt, (tt, (omega arith, close-small (spell d) (spell-small d h.1))))
   spell-small (here d) h = (tt, (tt, close-small (spell d) (spell-small d h)))
   spell-small (at_least ks t) h =
-      (tt, (tt, small-append (summed ks (spell-products ks)) _ (summed-small ks (spell-products ks) (products-small ks h.0 h.2)) (omega arith, (tt, tt))))
+      (tt, (tt, small-append (summed ks (spell_products ks)) _ (summed-small ks (spell_products ks) (products-small ks h.0 h.2)) (omega arith, (tt, tt))))
 
-  products-small : (ks : Products) → In-ranges ks → coefficients ks ≤ 1000 → AllSmall (spell-products ks)
+  products-small : (ks : Products) → InRanges ks → coefficients ks ≤ 1000 → AllSmall (spell_products ks)
   products-small none h k = tt
   products-small (product c s ks) h k =
       (tt, (tt, (omega arith, (tt, (tt, small-append (spell s) _ (spell-small s h.1) (tt, (tt, products-small ks h.2 (omega arith))))))))
@@ -212,7 +212,7 @@ tokens-parts : (text : List ℕ) (ws : List (ℕ × ℕ)) → map (λ i. i.1) (m
 tokens-parts text [] = refl
 tokens-parts text (w ∷ ws) = ap (λ l. token_of (part text w.0 w.1) ∷ l) (tokens-parts text ws)
 
-pub spells-parts : (text : List ℕ) (t : Tree) → In-range t → Spells text t ↔ (parts text ≡ map word (spell t))
+pub spells-parts : (text : List ℕ) (t : Tree) → InRange t → Spells text t ↔ (parts text ≡ map word (spell t))
 spells-parts text t h =
     let s = spell-small t h in
     let e = tokens-parts text (onward text 0) in (

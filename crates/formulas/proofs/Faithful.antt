@@ -11,8 +11,8 @@ use Rattle.formulas.specs.Layout.{fills}
 use Rattle.formulas.specs.Lines.{state}
 use Rattle.formulas.specs.Reading.{placed, reading}
 use Rattle.formulas.specs.Tables.{Slots, fits}
-use Rattle.formulas.specs.Spelling.{Spells, Allowed, Accepts, Numbers-fit, Coefficients-fit, Sums-short, Parts-short, BeginTerm, Wrong, Refusal}
-use Rattle.formulas.specs.Trees.{Tree, leaf, conj, neg, dia, here, at_least, Products, none, product, spell, Of-sort, In-range, In-ranges, lay}
+use Rattle.formulas.specs.Spelling.{Spells, Allowed, Accepts, NumbersFit, CoefficientsFit, SumsShort, PartsShort, BeginTerm, Wrong, Refusal}
+use Rattle.formulas.specs.Trees.{Tree, leaf, conj, neg, dia, here, at_least, Products, none, product, spell, OfSort, InRange, InRanges, lay}
 use Rattle.formulas.proofs.Written.{Toks, write, write-spell, told}
 use Rattle.formulas.proofs.Outcomes.{Limits, free, numbers, sizes, toks, Begins, Starts, Cause, Right}
 use Rattle.formulas.proofs.Languages.{Said, Within}
@@ -27,35 +27,35 @@ spell_told x y e = (told x y [] [] (sym (spell_write x) ∙ ap (λ l. map Some l
 
 -- the limits of numbers and those of sums are all limits but that of depth
 mutual
-  split-range : (x : Tree) → In-range x ↔ (Numbers-fit x × Sums-short x)
-  split-range (leaf b) = (λ h. (tt, tt), λ h. tt)
-  split-range (conj x y) =
-      let p = split-range x in
-      let q = split-range y in
+  split_range : (x : Tree) → InRange x ↔ (NumbersFit x × SumsShort x)
+  split_range (leaf b) = (λ h. (tt, tt), λ h. tt)
+  split_range (conj x y) =
+      let p = split_range x in
+      let q = split_range y in
       (λ h. let a = p.0 h.0 in let b = q.0 h.1 in ((a.0, b.0), (a.1, b.1)), λ h. (p.1 (h.0.0, h.1.0), q.1 (h.0.1, h.1.1)))
-  split-range (neg x) = split-range x
-  split-range (dia a d) = let p = split-range d in (λ h. let b = p.0 h.1 in ((h.0, b.0), b.1), λ h. (h.0.0, p.1 (h.0.1, h.1)))
-  split-range (here d) = split-range d
-  split-range (at_least ks t) =
-      let p = split-ranges ks in
+  split_range (neg x) = split_range x
+  split_range (dia a d) = let p = split_range d in (λ h. let b = p.0 h.1 in ((h.0, b.0), b.1), λ h. (h.0.0, p.1 (h.0.1, h.1)))
+  split_range (here d) = split_range d
+  split_range (at_least ks t) =
+      let p = split_ranges ks in
       (λ h. let b = p.0 h.0 in ((b.0, h.2, h.3), (b.1, h.1)), λ h. (p.1 (h.0.0, h.1.0), h.1.1, h.0.1, h.0.2))
 
-  split-ranges : (ks : Products) → In-ranges ks ↔ (Coefficients-fit ks × Parts-short ks)
-  split-ranges none = (λ h. (tt, tt), λ h. tt)
-  split-ranges (product c s ks) =
-      let p = split-range s in
-      let q = split-ranges ks in (
+  split_ranges : (ks : Products) → InRanges ks ↔ (CoefficientsFit ks × PartsShort ks)
+  split_ranges none = (λ h. (tt, tt), λ h. tt)
+  split_ranges (product c s ks) =
+      let p = split_range s in
+      let q = split_ranges ks in (
         λ h. let a = p.0 h.1 in let b = q.0 h.2 in ((h.0, a.0, b.0), (a.1, b.1)),
         λ h. (h.0.0, p.1 (h.0.1, h.1.0), q.1 (h.0.2, h.1.1)),
       )
 
 allowed-within : (t : Tree) → Allowed t → (w : Limits) → Within 64 w t
 allowed-within t a free = tt
-allowed-within t a numbers = ((split-range t).0 a.ranged).0
-allowed-within t a sizes = (((split-range t).0 a.ranged).1, a.shallow)
+allowed-within t a numbers = ((split_range t).0 a.ranged).0
+allowed-within t a sizes = (((split_range t).0 a.ranged).1, a.shallow)
 
 -- a tree is said by its spelling
-spelling_said : (t : Tree) (u : Toks) (w : Limits) → Of-sort state t → Within 64 w t → map Some (spell t) ≡ u → Said 64 state w t u []
+spelling_said : (t : Tree) (u : Toks) (w : Limits) → OfSort state t → Within 64 w t → map Some (spell t) ≡ u → Said 64 state w t u []
 spelling_said t u w s h e = record { sorted = s; within = h; spelled = sym e ∙ spell_write t }
 
 begin-term : (u : Toks) → Begins (Said 64 state) u → BeginTerm u
@@ -82,7 +82,7 @@ module _ (stop : ℕ) (ws : List Item) where
       let same : x ≡ t = cc in
       let h : (w : Limits) → Said 64 state w t (toks front ++ []) [] = λ w. subst (λ y. Said 64 state w y (toks front ++ []) []) same (said w []) in (
         toks-split ws front [] e ∙ (h free).spelled ∙ sym (spell_write t),
-        record { sorted = (h free).sorted; ranged = (split-range t).1 ((h numbers).within, (h sizes).within.0); shallow = (h sizes).within.1 },
+        record { sorted = (h free).sorted; ranged = (split_range t).1 ((h numbers).within, (h sizes).within.0); shallow = (h sizes).within.1 },
       )
   sound-lone t x front (i ∷ rest) e said o = absurd (let z : ◌≡◌ {A = ℕ} 0 1 = cc in let y : ⊥ = omega arith in y)
 
@@ -114,11 +114,11 @@ module _ (stop : ℕ) (ws : List Item) where
   stray-wrong x u p (Some t) rest h = (refl, (t, refl), λ b. behind-term x b.0 u b.1 (Some t) h b.3)
   stray-wrong x u p None rest h = (refl, refl)
 
-  abbrev Refusal-of : GrammarFault → Type 0
-  Refusal-of f = (front : List Item) × (back : List Item) × (ws ≡ front ++ back) × BeginTerm (toks front) × Wrong stop (toks front) back f
+  abbrev RefusalOf : GrammarFault → Type 0
+  RefusalOf f = (front : List Item) × (back : List Item) × (ws ≡ front ++ back) × BeginTerm (toks front) × Wrong stop (toks front) back f
 
   refused-lone : (f : GrammarFault) (x : Tree) (front rest : List Item) → ws ≡ front ++ rest → ((w : Limits) (v : Toks) → Said 64 state w x (toks front ++ v) v)
-      → lone x rest ≡ Err f → Refusal-of f
+      → lone x rest ≡ Err f → RefusalOf f
   refused-lone f x front [] e said o = absurd (let z : ◌≡◌ {A = ℕ} 0 1 = cc in let y : ⊥ = omega arith in y)
   refused-lone f x front (i ∷ rest) e said o =
       let g : stray i.0 i.1 ≡ f = cc in (
@@ -147,7 +147,7 @@ module _ (stop : ℕ) (ws : List Item) where
     λ b. c.3 b.1 (b.0, [], spelling_said b.0 (u ++ (i.1 ∷ b.1)) sizes b.2.0 (b.2.1, b.2.2) (b.3 ∙ append_assoc u (i.1 ∷ []) b.1)),
   )
 
-  refused-of : (o : Out Tree) (f : GrammarFault) → Right stop (Said 64 state) o ws → finish o ≡ Err f → Refusal-of f
+  refused-of : (o : Out Tree) (f : GrammarFault) → Right stop (Said 64 state) o ws → finish o ≡ Err f → RefusalOf f
   refused-of (Ok x) f r e = refused-lone f x.0 r.0 x.1 r.1 r.2 e
   refused-of (Err g) f r e =
       let same : g ≡ f = cc in

@@ -69,9 +69,9 @@ module _ (ls : List Line) where
         let l = part.before in
         and_from (ltb j i) (is_dist_node ns j) (lt-ltb j i l) (ap not (table-sort 0 0 ls j no_state (omega arith) ∙ ap is_state part.sorted))
 
-    dists-below : (ds : List ℕ) → AllByRecursion (Part ls i dist) ds → all_dist ns i ds ≡ true
-    dists-below [] ps = refl
-    dists-below (d ∷ ds) ps = and_from (below_dist ns i d) (all_dist ns i ds) (dist-below d ps.0) (dists-below ds ps.1)
+    dists_below : (ds : List ℕ) → AllByRecursion (Part ls i dist) ds → all_dist ns i ds ≡ true
+    dists_below [] ps = refl
+    dists_below (d ∷ ds) ps = and_from (below_dist ns i d) (all_dist ns i ds) (dist-below d ps.0) (dists_below ds ps.1)
 
     terms-stand : (left : ℕ) (ks : List Term) → AllByRecursion (λ k. Part ls i state k.node) ks → AllByRecursion (λ k. 1 ≤ k.coefficient) ks → sum_by (λ k. k.coefficient) ks ≤ left → terms_ok ns i left ks ≡ true
     terms-stand left [] ps cs l = refl
@@ -99,7 +99,7 @@ module _ (ls : List Line) where
         and_from (leb x 31) (step_ok ns alts i a (run a (length ms)) (run (a + length ms) (length hs))) (le-leb x 31 (omega arith))
         (and_from (run_ok (length alts) a (run a (length ms))) (run_ok (length alts) (a + length ms) (run (a + length ms) (length hs)) && all_dist ns i (part alts a (length ms + length hs))) (run-stands (length alts) a (length ms) (omega arith))
         (and_from (run_ok (length alts) (a + length ms) (run (a + length ms) (length hs))) (all_dist ns i (part alts a (length ms + length hs))) (run-stands (length alts) (a + length ms) (length hs) (omega arith))
-        (ap (all_dist ns i) (part-here alts a (ms ++ hs) bs oa (length ms + length hs) (sym e)) ∙ dists-below (ms ++ hs) (All-append (Part ls i dist) ms hs f.1 f.2))))
+        (ap (all_dist ns i) (part-here alts a (ms ++ hs) bs oa (length ms + length hs) (sym e)) ∙ dists_below (ms ++ hs) (All-append (Part ls i dist) ms hs f.1 f.2))))
     node-stands ts alts m t a (sum x ks) us bs ot oa f b =
         and_from (leb x (1000 * m)) (sum_ok ns ts m i t (run t (length ks))) (le-leb x (1000 * m) b.2)
         (and_from (run_ok (length ts) t (run t (length ks))) (terms_ok ns i (1000 * m) (part ts t (length ks))) (run-stands (length ts) t (length ks) (part-fits ts t ks us ot))

@@ -9,7 +9,7 @@ use Rattle.formulas.specs.Lines.{Sort, state, dist, Line, constant, both, non, s
 use Rattle.formulas.specs.Tables.{Slots, over, laid}
 use Rattle.formulas.specs.Spelling.{Allowed}
 use Rattle.formulas.specs.Stands.{is_state_node, is_dist_node, below_state, below_dist, run_ok, all_dist, terms_ok, node_ok, terms_of, alternatives_of, walk, stands, formula_in}
-use Rattle.formulas.specs.Trees.{Tree, leaf, conj, neg, dia, here, at_least, Products, none, product, Of-sort, Of-products, In-range, In-ranges, coefficients, below, below-products, terms, lay, lay-products}
+use Rattle.formulas.specs.Trees.{Tree, leaf, conj, neg, dia, here, at_least, Products, none, product, OfSort, OfProducts, InRange, InRanges, coefficients, below, below_products, terms, lay, lay_products}
 
 -- node j is of the sort
 abbrev Has : List Node → Sort → ℕ → Type 0
@@ -149,12 +149,12 @@ mutual
   lay-length (neg x) σ n = omega (arith, length-append (lay σ n x) (non σ (n + below x) ∷ []), lay-length x σ n)
   lay-length (dia a d) σ n = omega (arith, length-append (lay dist n d) (step a ((n + below d) ∷ []) [] ∷ []), lay-length d dist n)
   lay-length (here d) σ n = omega (arith, length-append (lay dist n d) (step 0 [] ((n + below d) ∷ []) ∷ []), lay-length d dist n)
-  lay-length (at_least ks t) σ n = omega (arith, length-append (lay-products n ks) (sum t (terms n ks) ∷ []), lay-products-length ks n)
+  lay-length (at_least ks t) σ n = omega (arith, length-append (lay_products n ks) (sum t (terms n ks) ∷ []), lay_products-length ks n)
 
-  lay-products-length : (ks : Products) (n : ℕ) → length (lay-products n ks) ≡ below-products ks
-  lay-products-length none n = refl
-  lay-products-length (product c s ks) n =
-      omega (arith, length-append (lay state n s) (lay-products (n + below s + 1) ks), lay-length s state n, lay-products-length ks (n + below s + 1))
+  lay_products-length : (ks : Products) (n : ℕ) → length (lay_products n ks) ≡ below_products ks
+  lay_products-length none n = refl
+  lay_products-length (product c s ks) n =
+      omega (arith, length-append (lay state n s) (lay_products (n + below s + 1) ks), lay-length s state n, lay_products-length ks (n + below s + 1))
 
 -- the last line of a tree is its own
 record Last (σ : Sort) (n : ℕ) (x : Tree) : Type 0 where
@@ -164,7 +164,7 @@ record Last (σ : Sort) (n : ℕ) (x : Tree) : Type 0 where
   sorted : sort own ≡ σ
   many : length others ≡ below x
 
-last : (x : Tree) (σ : Sort) (n : ℕ) → Of-sort σ x → Last σ n x
+last : (x : Tree) (σ : Sort) (n : ℕ) → OfSort σ x → Last σ n x
 last (leaf b) σ n h = record { others = []; own = constant σ b; split = refl; sorted = refl; many = refl }
 last (conj x y) σ n h = record {
   others = lay σ n x ++ lay σ (n + below x + 1) y;
@@ -179,7 +179,7 @@ last (dia a d) dist n h = absurd h
 last (here d) state n h = record { others = lay dist n d; own = step 0 [] ((n + below d) ∷ []); split = refl; sorted = refl; many = lay-length d dist n }
 last (here d) dist n h = absurd h
 last (at_least ks t) state n h = absurd h
-last (at_least ks t) dist n h = record { others = lay-products n ks; own = sum t (terms n ks); split = refl; sorted = refl; many = lay-products-length ks n }
+last (at_least ks t) dist n h = record { others = lay_products n ks; own = sum t (terms n ks); split = refl; sorted = refl; many = lay_products-length ks n }
 
 all_append : (ns : List Node) (i j : ℕ) (ks ls : List Line) → j ≡ i + length ks → AllOk ns i ks → AllOk ns j ls → AllOk ns i (ks ++ ls)
 all_append ns i j [] ls e h k = subst (λ n. AllOk ns n ls) (let z : j ≡ i = omega arith in z) k
@@ -213,28 +213,28 @@ module _ (all : List Line) where
       (subst (λ m. Has (node_table 0 0 (h.pre ++ (l ∷ h.post))) (sort l) m) h.count (line-has h.pre 0 0 l h.post))
 
   -- the node of a tree
-  own-has : (x : Tree) (σ : Sort) (n : ℕ) → Of-sort σ x → At n (lay σ n x) → Has nodes σ (n + below x)
+  own-has : (x : Tree) (σ : Sort) (n : ℕ) → OfSort σ x → At n (lay σ n x) → Has nodes σ (n + below x)
   own-has x σ n s h =
       let l = last x σ n s in
       subst (λ τ. Has nodes τ (n + below x)) l.sorted
       (at_has (n + below x) l.own
       (at_back n (n + below x) l.others (l.own ∷ []) (ap (λ m. n + m) (sym l.many)) (subst (λ ls. At n ls) l.split h)))
 
-  own-before : (x : Tree) (σ : Sort) (n i : ℕ) → Of-sort σ x → At n (lay σ n x) → n + below x < i → before nodes σ i (n + below x) ≡ true
+  own-before : (x : Tree) (σ : Sort) (n i : ℕ) → OfSort σ x → At n (lay σ n x) → n + below x < i → before nodes σ i (n + below x) ≡ true
   own-before x σ n i s h k = before_from nodes σ i (n + below x) k (own-has x σ n s h)
 
-  terms-right : (ks : Products) (n i left : ℕ) → Of-products ks → In-ranges ks → At n (lay-products n ks) → n + below-products ks ≤ i → coefficients ks ≤ left
+  terms-right : (ks : Products) (n i left : ℕ) → OfProducts ks → InRanges ks → At n (lay_products n ks) → n + below_products ks ≤ i → coefficients ks ≤ left
       → terms_ok nodes i left (terms n ks) ≡ true
   terms-right none n i left s r h k c = refl
   terms-right (product e x ks) n i left s r h k c =
       and_from _ _
       (and_from _ _ (le-leb 1 e r.0) (and_from _ _ (le-leb e left (omega arith))
-      (own-before x state n i s.0 (at_front n (lay state n x) (lay-products (n + below x + 1) ks) h) (omega arith))))
+      (own-before x state n i s.0 (at_front n (lay state n x) (lay_products (n + below x + 1) ks) h) (omega arith))))
       (terms-right ks (n + below x + 1) i (left - e) s.1 r.2
-      (at_back n (n + below x + 1) (lay state n x) (lay-products (n + below x + 1) ks) (omega (arith, lay-length x state n)) h) (omega arith) (omega arith))
+      (at_back n (n + below x + 1) (lay state n x) (lay_products (n + below x + 1) ks) (omega (arith, lay-length x state n)) h) (omega arith) (omega arith))
 
   mutual
-    lay-right : (x : Tree) (σ : Sort) (n : ℕ) → Of-sort σ x → In-range x → At n (lay σ n x) → AllOk nodes n (lay σ n x)
+    lay-right : (x : Tree) (σ : Sort) (n : ℕ) → OfSort σ x → InRange x → At n (lay σ n x) → AllOk nodes n (lay σ n x)
     lay-right (leaf b) σ n s r h = (tt, tt)
     lay-right (conj x y) σ n s r h =
         let m = n + below x + 1 in
@@ -268,18 +268,18 @@ module _ (all : List Line) where
     lay-right (at_least ks t) state n s r h = absurd s
     lay-right (at_least ks t) dist n s r h =
         let own = sum t (terms n ks) in
-        let hk = at_front n (lay-products n ks) (own ∷ []) h in
-        let i = n + below-products ks in
-        all_append nodes n i (lay-products n ks) (own ∷ []) (omega (arith, lay-products-length ks n)) (lay-products-right ks n s r.0 hk)
+        let hk = at_front n (lay_products n ks) (own ∷ []) h in
+        let i = n + below_products ks in
+        all_append nodes n i (lay_products n ks) (own ∷ []) (omega (arith, lay_products-length ks n)) (lay_products-right ks n s r.0 hk)
         ((r.3, terms-right ks n i 1000 s r.0 hk (omega arith) r.2), tt)
 
-    lay-products-right : (ks : Products) (n : ℕ) → Of-products ks → In-ranges ks → At n (lay-products n ks) → AllOk nodes n (lay-products n ks)
-    lay-products-right none n s r h = tt
-    lay-products-right (product c x ks) n s r h =
+    lay_products-right : (ks : Products) (n : ℕ) → OfProducts ks → InRanges ks → At n (lay_products n ks) → AllOk nodes n (lay_products n ks)
+    lay_products-right none n s r h = tt
+    lay_products-right (product c x ks) n s r h =
         let m = n + below x + 1 in
-        all_append nodes n m (lay state n x) (lay-products m ks) (omega (arith, lay-length x state n))
-        (lay-right x state n s.0 r.1 (at_front n (lay state n x) (lay-products m ks) h))
-        (lay-products-right ks m s.1 r.2 (at_back n m (lay state n x) (lay-products m ks) (omega (arith, lay-length x state n)) h))
+        all_append nodes n m (lay state n x) (lay_products m ks) (omega (arith, lay-length x state n))
+        (lay-right x state n s.0 r.1 (at_front n (lay state n x) (lay_products m ks) h))
+        (lay_products-right ks m s.1 r.2 (at_back n m (lay state n x) (lay_products m ks) (omega (arith, lay-length x state n)) h))
 
 pub laid-stands : (t : Tree) → Allowed t
     → stands (node_table 0 0 (lay state 0 t)) (term_table (lay state 0 t)) (alternative_table (lay state 0 t)) (below t) 1 ≡ true

@@ -3,8 +3,8 @@ use Rattle.std.proofs.Common.{◌≡◌, ℕ, zero, suc, ◌+◌, ◌≤◌, tru
 use Rattle.formulas.specs.declared.token.Token.{Token}
 use Rattle.formulas.specs.declared.token.Token.TheVariants.{Open, Close, True, False, And, Not, Dia, Here, Prob, AtLeast, Plus, Times, Numeral}
 use Rattle.formulas.specs.Lines.{Sort, state}
-use Rattle.formulas.specs.Trees.{Tree, leaf, conj, neg, dia, here, at_least, Products, none, product, Of-sort, Of-products, count, coefficients, depth, sum_depth, products-depth}
-use Rattle.formulas.specs.Spelling.{Numbers-fit, Coefficients-fit, Sums-short, Parts-short}
+use Rattle.formulas.specs.Trees.{Tree, leaf, conj, neg, dia, here, at_least, Products, none, product, OfSort, OfProducts, count, coefficients, depth, sum_depth, products_depth}
+use Rattle.formulas.specs.Spelling.{NumbersFit, CoefficientsFit, SumsShort, PartsShort}
 use Rattle.formulas.proofs.Written.{Toks, write, write-products, write_sum, shape, sum-shape, products-shape, told, products-told, sum_told}
 use Rattle.formulas.proofs.Outcomes.{Limits, free, numbers, sizes, Lang, Begins, Clear, Proper, Two}
 
@@ -56,11 +56,11 @@ counted_clear low high w w' a a' u v v' h h' =
 -- a term of a sort in which at most room parentheses are open at a time
 abbrev pub Within : ℕ → Limits → Tree → Type 0
 Within room free b = Unit {0}
-Within room numbers b = Numbers-fit b
-Within room sizes b = Sums-short b × (depth b ≤ room)
+Within room numbers b = NumbersFit b
+Within room sizes b = SumsShort b × (depth b ≤ room)
 
 pub record Said (room : ℕ) (σ : Sort) (w : Limits) (b : Tree) (u v : Toks) : Type 0 where
-  pub sorted : Of-sort σ b
+  pub sorted : OfSort σ b
   pub within : Within room w b
   pub spelled : u ≡ write b v
 
@@ -103,11 +103,11 @@ said_shallow σ b u v h = no_room b u v h.within.1 h.spelled
 -- a sum
 abbrev pub SumWithin : ℕ → Limits → Products → Type 0
 SumWithin room free ks = Unit {0}
-SumWithin room numbers ks = Coefficients-fit ks × (coefficients ks ≤ 1000)
-SumWithin room sizes ks = Parts-short ks × (count ks ≤ 8) × (sum_depth ks (products-depth ks) ≤ room)
+SumWithin room numbers ks = CoefficientsFit ks × (coefficients ks ≤ 1000)
+SumWithin room sizes ks = PartsShort ks × (count ks ≤ 8) × (sum_depth ks (products_depth ks) ≤ room)
 
 pub record Summed (room : ℕ) (w : Limits) (ks : Products) (u v : Toks) : Type 0 where
-  pub sorted : Of-products ks
+  pub sorted : OfProducts ks
   pub within : SumWithin room w ks
   pub spelled : u ≡ write_sum ks v
 
@@ -134,7 +134,7 @@ sum-body_proper room = record {
   known = λ b u v h. sum-shape b (Some Open ∷ None ∷ u) v h.spelled;
 }
 
-no_sum_room : (ks : Products) (u v : Toks) → sum_depth ks (products-depth ks) ≤ 0 → Some Open ∷ u ≡ write_sum ks v → ⊥
+no_sum_room : (ks : Products) (u v : Toks) → sum_depth ks (products_depth ks) ≤ 0 → Some Open ∷ u ≡ write_sum ks v → ⊥
 no_sum_room none u v h e = let z : ◌≡◌ {A = ℕ} 0 1 = cc in omega arith
 no_sum_room (product c s none) u v h e = omega arith
 no_sum_room (product c s (product d r ks)) u v h e = omega arith
@@ -145,11 +145,11 @@ summed-shallow ks u v h = no_sum_room ks u v h.within.2 h.spelled
 -- the probability of a state term
 abbrev pub ProbWithin : ℕ → Limits → Tree → Type 0
 ProbWithin room free s = Unit {0}
-ProbWithin room numbers s = Numbers-fit s
-ProbWithin room sizes s = Sums-short s × (suc (depth s) ≤ room)
+ProbWithin room numbers s = NumbersFit s
+ProbWithin room sizes s = SumsShort s × (suc (depth s) ≤ room)
 
 pub record ProbSaid (room : ℕ) (w : Limits) (s : Tree) (u v : Toks) : Type 0 where
-  pub sorted : Of-sort state s
+  pub sorted : OfSort state s
   pub within : ProbWithin room w s
   pub spelled : u ≡ Some Open ∷ Some Prob ∷ write s (Some Close ∷ v)
 
@@ -178,11 +178,11 @@ Factor room left = Two (Counted 1 left) (ProbSaid room) (λ c s. (c, s))
 -- the products left behind a `+`, of which at most more come, and of which enough must come
 abbrev pub SeveralWithin : ℕ → ℕ → ℕ → Limits → Products → Type 0
 SeveralWithin more left room free ks = Unit {0}
-SeveralWithin more left room numbers ks = Coefficients-fit ks × (coefficients ks ≤ left)
-SeveralWithin more left room sizes ks = Parts-short ks × (count ks ≤ more) × (products-depth ks ≤ room)
+SeveralWithin more left room numbers ks = CoefficientsFit ks × (coefficients ks ≤ left)
+SeveralWithin more left room sizes ks = PartsShort ks × (count ks ≤ more) × (products_depth ks ≤ room)
 
 pub record Several (more left room : ℕ) (w : Limits) (ks : Products) (u v : Toks) : Type 0 where
-  pub sorted : Of-products ks
+  pub sorted : OfProducts ks
   pub enough : more ≤ 6 + count ks
   pub within : SeveralWithin more left room w ks
   pub spelled : u ≡ write-products ks (Some Close ∷ v)
@@ -192,7 +192,7 @@ some-products : ℕ → Products
 some-products zero = none
 some-products (suc n) = product 0 (leaf true) (some-products n)
 
-some-sorted : (n : ℕ) → Of-products (some-products n)
+some-sorted : (n : ℕ) → OfProducts (some-products n)
 unfolding some-products
 some-sorted zero = tt
 some-sorted (suc n) = (tt, some-sorted n)

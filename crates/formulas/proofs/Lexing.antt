@@ -30,17 +30,17 @@ no_value Times h = refl
 no_value (Numeral n) h = absurd (h n refl)
 
 module _ (room : ℕ) (x : Lexeme) (stop : ℕ) (ws : List Item) where
-  pub start-true : x.token ≡ True → starting room x stop ws ≡ Ok (Constant true, ws)
-  start-true e = rw e
+  pub start_true : x.token ≡ True → starting room x stop ws ≡ Ok (Constant true, ws)
+  start_true e = rw e
 
-  pub start-false : x.token ≡ False → starting room x stop ws ≡ Ok (Constant false, ws)
-  start-false e = rw e
+  pub start_false : x.token ≡ False → starting room x stop ws ≡ Ok (Constant false, ws)
+  start_false e = rw e
 
-  pub start-open : x.token ≡ Open → starting room x stop ws ≡ then (behind room x stop ws) (λ y rest. Ok (Inside y, rest))
-  start-open e = rw e
+  pub start_open : x.token ≡ Open → starting room x stop ws ≡ then (behind room x stop ws) (λ y rest. Ok (Inside y, rest))
+  start_open e = rw e
 
-  pub start-other : (x.token ≡ True → ⊥) → (x.token ≡ False → ⊥) → (x.token ≡ Open → ⊥) → starting room x stop ws ≡ misplaced x
-  start-other a b c = rw (is-not True (lit< tt) x a, is-not False (lit< tt) x b, is-not Open (lit< tt) x c)
+  pub start_other : (x.token ≡ True → ⊥) → (x.token ≡ False → ⊥) → (x.token ≡ Open → ⊥) → starting room x stop ws ≡ misplaced x
+  start_other a b c = rw (is-not True (lit< tt) x a, is-not False (lit< tt) x b, is-not Open (lit< tt) x c)
 
   pub sum-none : {n : ℕ} → x.token ≡ Numeral n → n ≡ 0 → sum_starting room x stop ws ≡ Ok (None, ws)
   sum-none e z = rw (e, z)
@@ -54,34 +54,34 @@ module _ (room : ℕ) (x : Lexeme) (stop : ℕ) (ws : List Item) where
   pub sum-other : ((n : ℕ) → x.token ≡ Numeral n → ⊥) → (x.token ≡ Open → ⊥) → sum_starting room x stop ws ≡ misplaced x
   sum-other a b = rw (ap nought (no_value x.token a), is-not Open (lit< tt) x b)
 
-  pub prob-open : x.token ≡ Open → prob_starting room x stop ws ≡ then (behind room x stop ws) (λ y rest. confirmed Prob y rest)
-  prob-open e = rw e
+  pub prob_open : x.token ≡ Open → prob_starting room x stop ws ≡ then (behind room x stop ws) (λ y rest. confirmed Prob y rest)
+  prob_open e = rw e
 
-  pub prob-other : (x.token ≡ Open → ⊥) → prob_starting room x stop ws ≡ misplaced x
-  prob-other a = rw (is-not Open (lit< tt) x a)
+  pub prob_other : (x.token ≡ Open → ⊥) → prob_starting room x stop ws ≡ misplaced x
+  prob_other a = rw (is-not Open (lit< tt) x a)
 
 module _ (x : Lexeme) (ws : List Item) where
-  pub is-prob : x.token ≡ Prob → confirmed Prob x ws ≡ Ok (tt, ws)
-  is-prob e = rw e
+  pub is_prob : x.token ≡ Prob → confirmed Prob x ws ≡ Ok (tt, ws)
+  is_prob e = rw e
 
-  pub no-prob : (x.token ≡ Prob → ⊥) → confirmed Prob x ws ≡ misplaced x
-  no-prob a = rw (is-not Prob (lit< tt) x a)
+  pub no_prob : (x.token ≡ Prob → ⊥) → confirmed Prob x ws ≡ misplaced x
+  no_prob a = rw (is-not Prob (lit< tt) x a)
 
   module _ (count : ℕ) where
-    pub follow-end : x.token ≡ Close → 2 ≤ count → following count x ws ≡ Ok (None, ws)
-    follow-end e h = rw (e, le-leb 2 count h)
+    pub follow_end : x.token ≡ Close → 2 ≤ count → following count x ws ≡ Ok (None, ws)
+    follow_end e h = rw (e, le-leb 2 count h)
 
-    pub follow-soon : x.token ≡ Close → count < 2 → following count x ws ≡ misplaced x
-    follow-soon e h = rw (e, lt-leb 2 count h)
+    pub follow_soon : x.token ≡ Close → count < 2 → following count x ws ≡ misplaced x
+    follow_soon e h = rw (e, lt-leb 2 count h)
 
-    pub follow-full : x.token ≡ Open → 8 ≤ count → following count x ws ≡ too_many x
-    follow-full e h = rw (e, le-leb 8 count h)
+    pub follow_full : x.token ≡ Open → 8 ≤ count → following count x ws ≡ too_many x
+    follow_full e h = rw (e, le-leb 8 count h)
 
-    pub follow-open : x.token ≡ Open → count < 8 → following count x ws ≡ Ok (Some x, ws)
-    follow-open e h = rw (e, lt-leb 8 count h)
+    pub follow_open : x.token ≡ Open → count < 8 → following count x ws ≡ Ok (Some x, ws)
+    follow_open e h = rw (e, lt-leb 8 count h)
 
-    pub follow-other : (x.token ≡ Close → ⊥) → (x.token ≡ Open → ⊥) → following count x ws ≡ misplaced x
-    follow-other a b = rw (is-not Close (lit< tt) x a, is-not Open (lit< tt) x b)
+    pub follow_other : (x.token ≡ Close → ⊥) → (x.token ≡ Open → ⊥) → following count x ws ≡ misplaced x
+    follow_other a b = rw (is-not Close (lit< tt) x a, is-not Open (lit< tt) x b)
 
   module _ (t : Token) where
     pub expected-yes : code t ≡ code x.token → confirmed t x ws ≡ Ok (tt, ws)

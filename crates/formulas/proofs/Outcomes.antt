@@ -57,14 +57,14 @@ abbrev pub Clear : {A : Type 0} → Lang A → Type 0
 Clear {A} L = (w w' : Limits) (a a' : A) (u v v' : Toks) → L w a u v → L w' a' u v' → (a ≡ a') × (v ≡ v')
 
 module _ {A B : Type 0} (stop : ℕ) (L : Lang A) (M : Lang B) where
-  cause-behind : (p u : Toks) (begins : (k : Toks) → Begins L k → Begins M (p ++ k)) (starts : (w : Limits) (k : Toks) → Starts M w (p ++ k) → Starts L w k)
+  cause_behind : (p u : Toks) (begins : (k : Toks) → Begins L k → Begins M (p ++ k)) (starts : (w : Limits) (k : Toks) → Starts M w (p ++ k) → Starts L w k)
       (back : List Item) (f : GrammarFault) → Cause stop L u back f → Cause stop M (p ++ u) back f
-  cause-behind p u begins starts [] f c = (c.0, λ s. c.1 (starts free u s))
-  cause-behind p u begins starts (i ∷ is) (Word g) c = (c.0, c.1, λ r s. c.2 r (starts free _ (rw append_assoc at s)))
-  cause-behind p u begins starts (i ∷ is) (Misplaced q) c = (c.0, c.1, λ r s. c.2 r (starts free _ (rw append_assoc at s)))
-  cause-behind p u begins starts (i ∷ is) (OutOfRange q) c =
+  cause_behind p u begins starts [] f c = (c.0, λ s. c.1 (starts free u s))
+  cause_behind p u begins starts (i ∷ is) (Word g) c = (c.0, c.1, λ r s. c.2 r (starts free _ (rw append_assoc at s)))
+  cause_behind p u begins starts (i ∷ is) (Misplaced q) c = (c.0, c.1, λ r s. c.2 r (starts free _ (rw append_assoc at s)))
+  cause_behind p u begins starts (i ∷ is) (OutOfRange q) c =
       (c.0, c.1, rw append_assoc (begins _ c.2), λ r s. c.3 r (starts numbers _ (rw append_assoc at s)))
-  cause-behind p u begins starts (i ∷ is) (TooMany q) c =
+  cause_behind p u begins starts (i ∷ is) (TooMany q) c =
       (c.0, c.1, rw append_assoc (begins _ c.2), λ r s. c.3 r (starts sizes _ (rw append_assoc at s)))
 
   -- a fault in one language is a fault in another, behind words
@@ -74,7 +74,7 @@ module _ {A B : Type 0} (stop : ℕ) (L : Lang A) (M : Lang B) where
   refused-behind pre ws f begins starts r =
       let front = r.0 in
       let whole = subst (λ u. Begins M u × Cause stop M u r.1 f) (sym (map-append (λ i. i.1) pre front))
-      (begins (toks front) r.3, cause-behind (toks pre) (toks front) begins starts r.1 f r.4) in
+      (begins (toks front) r.3, cause_behind (toks pre) (toks front) begins starts r.1 f r.4) in
       (pre ++ front, r.1, ap (λ l. pre ++ l) r.2 ∙ sym (append_assoc pre front r.1), whole.0, whole.1)
 
 -- a language is what is left of another behind words
@@ -104,14 +104,14 @@ seq_clear L M l m w w' b b' u v v' h h' =
     m h'.0 w w' b b' h'.1 v v' k h'.3
 
 module _ {A B : Type 0} (stop : ℕ) (L : Lang A) (M : A → Lang B) (clear : Clear L) where
-  seq-rest : (a : A) (front rest : List Item) (o : Out B) → ((w : Limits) (v : Toks) → L w a (toks front ++ v) v)
+  seq_rest : (a : A) (front rest : List Item) (o : Out B) → ((w : Limits) (v : Toks) → L w a (toks front ++ v) v)
       → Right stop (M a) o rest → Right stop (Seq L M) o (front ++ rest)
-  seq-rest a front rest (Ok y) said r = (
+  seq_rest a front rest (Ok y) said r = (
     front ++ r.0,
     ap (λ l. front ++ l) r.1 ∙ sym (append_assoc front r.0 y.1),
     λ w v. (a, toks r.0 ++ v, rw toks-append (said w (toks r.0 ++ v)), r.2 w v),
   )
-  seq-rest a front rest (Err f) said r =
+  seq_rest a front rest (Err f) said r =
       refused-behind stop (M a) (Seq L M) front rest f
       (λ k g. (g.0, λ v. ((g.1 v).0, (a, k ++ (g.1 v).0, rw append_assoc (said free (k ++ (g.1 v).0)), (g.1 v).1))))
       (λ w k s.
@@ -123,7 +123,7 @@ module _ {A B : Type 0} (stop : ℕ) (L : Lang A) (M : A → Lang B) (clear : Cl
   pub right-then : (o : Out A) (f : A → List Item → Out B) (ws : List Item) → ((a : A) → Begins (M a) []) → Right stop L o ws
       → ((a : A) (rest : List Item) → Right stop (M a) (f a rest) rest) → Right stop (Seq L M) (then o f) ws
   right-then (Ok x) f ws some r rs =
-      subst (λ l. Right stop (Seq L M) (f x.0 x.1) l) (sym r.1) (seq-rest x.0 r.0 x.1 (f x.0 x.1) r.2 (rs x.0 x.1))
+      subst (λ l. Right stop (Seq L M) (f x.0 x.1) l) (sym r.1) (seq_rest x.0 r.0 x.1 (f x.0 x.1) r.2 (rs x.0 x.1))
   right-then (Err e) f ws some r rs =
       refused-behind stop L (Seq L M) [] ws e
       (λ k g. seq_begins L M k g some)
@@ -189,11 +189,11 @@ module _ {A : Type 0} (stop : ℕ) (L : Lang A) (proper : Proper L) where
       → Right stop L (Err (Misplaced p)) ((p, Some t) ∷ rest)
   right-misplaced p t rest bars = ([], (p, Some t) ∷ rest, refl, proper.some, (refl, (t, refl), λ r s. bars s.0 r s.1 s.2))
 
-  pub right-too-many : (p : ℕ) (rest : List Item) → Begins L (Some Open ∷ []) → ((b : A) (u v : Toks) → L sizes b (Some Open ∷ u) v → ⊥)
+  pub right-too_many : (p : ℕ) (rest : List Item) → Begins L (Some Open ∷ []) → ((b : A) (u v : Toks) → L sizes b (Some Open ∷ u) v → ⊥)
       → Right stop L (Err (TooMany p)) ((p, Some Open) ∷ rest)
-  right-too-many p rest begins bars = ([], (p, Some Open) ∷ rest, refl, proper.some, (refl, refl, begins, λ r s. bars s.0 r s.1 s.2))
+  right-too_many p rest begins bars = ([], (p, Some Open) ∷ rest, refl, proper.some, (refl, refl, begins, λ r s. bars s.0 r s.1 s.2))
 
-  pub right-out-of-range : (p n : ℕ) (rest : List Item) → Begins L (Some (Numeral n) ∷ []) → ((b : A) (u v : Toks) → L numbers b (Some (Numeral n) ∷ u) v → ⊥)
+  pub right_out_of_range : (p n : ℕ) (rest : List Item) → Begins L (Some (Numeral n) ∷ []) → ((b : A) (u v : Toks) → L numbers b (Some (Numeral n) ∷ u) v → ⊥)
       → Right stop L (Err (OutOfRange p)) ((p, Some (Numeral n)) ∷ rest)
-  right-out-of-range p n rest begins bars =
+  right_out_of_range p n rest begins bars =
       ([], (p, Some (Numeral n)) ∷ rest, refl, proper.some, (refl, (n, refl), begins, λ r s. bars s.0 r s.1 s.2))

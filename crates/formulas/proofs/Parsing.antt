@@ -144,14 +144,14 @@ full room count left stop ws e =
     ap (λ m. products room m left stop ws) e
     ∙ divided (next stop ws) _ _ _
     (λ x rest.
-    ap (λ b. cond b (Ok (none, rest)) (cond (is Open x) (too_many x) (misplaced x))) (and-true (is Close x))
+    ap (λ b. cond b (Ok (none, rest)) (cond (is Open x) (too_many x) (misplaced x))) (and_true (is Close x))
     ∙ ap (cond (is Close x && leb 2 8) (Ok (none, rest))) (sym (then-cond (is Open x) (too_many x) (misplaced x) _))
     ∙ sym (then-cond (is Close x && leb 2 8) (Ok (None, rest)) _ (λ o r. followed room 8 left o stop r)))
     ∙ ap (λ m. then (another m stop ws) (λ o r. followed room m left o stop r)) (sym e)
   where
-    and-true : (b : Bool) → b ≡ b && true
-    and-true true = refl
-    and-true false = refl
+    and_true : (b : Bool) → b ≡ b && true
+    and_true true = refl
+    and_true false = refl
 
 pub products_follow : (room count left stop : ℕ) (ws : List Item) → count ≤ 8 → products room count left stop ws ≡ then (another count stop ws) (λ o r. followed room count left o stop r)
 products_follow room count left stop ws h =

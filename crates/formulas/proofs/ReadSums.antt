@@ -7,11 +7,11 @@ use Rattle.formulas.specs.declared.token.Token.TheVariants.{Open, Close, True, F
 use Rattle.formulas.specs.declared.token.Lexeme.{Lexeme}
 use Rattle.formulas.specs.Grammar.{Item, Out, then, next, code, expect, number, closed, sum_begun, factor, alone, several, sum_headed}
 use Rattle.formulas.specs.Lines.{state}
-use Rattle.formulas.specs.Trees.{Tree, Products, none, product, Of-sort, Of-products, count, sum_depth, products-depth}
+use Rattle.formulas.specs.Trees.{Tree, Products, none, product, OfSort, OfProducts, count, sum_depth, products_depth}
 use Rattle.formulas.proofs.Written.{Toks, write, write-products, write_sum, sum-shape, SumStarted, SumHeaded, products-shape, ProductsStarted}
-use Rattle.formulas.proofs.Outcomes.{Limits, free, numbers, sizes, Lang, Begins, Right, Clear, right-behind, Seq, seq_begins, seq_clear, right-then, Done, right-done, done-some, Just, just_clear, just_some, One, one_some, two_some, two_clear, right-next, right-misplaced, right-too-many}
+use Rattle.formulas.proofs.Outcomes.{Limits, free, numbers, sizes, Lang, Begins, Right, Clear, right-behind, Seq, seq_begins, seq_clear, right-then, Done, right-done, done-some, Just, just_clear, just_some, One, one_some, two_some, two_clear, right-next, right-misplaced, right-too_many}
 use Rattle.formulas.proofs.Languages.{InBounds, Counted, counted_proper, counted_clear, Within, Said, said_proper, said_clear, SumWithin, Summed, summed_proper, Sum-body, sum-body_proper, ProbWithin, ProbSaid, prob_proper, prob_opens, prob_clear, Factor, SeveralWithin, Several, several_proper, several_clear, several-opens}
-use Rattle.formulas.proofs.ReadTokens.{by_test, code-told, right-expect, right-one, right-two, right-number}
+use Rattle.formulas.proofs.ReadTokens.{by_test, code-told, right-expect, right-one, right_two, right-number}
 
 -- the limits of products, and of those behind the first
 product_within : (room r more left : ℕ) → room ≡ suc r → (w : Limits) (c : ℕ) (s : Tree) (ks : Products)
@@ -42,7 +42,7 @@ many-within : (room : ℕ) (w : Limits) (ks : Products) → 2 ≤ count ks → S
 many-within room free ks m = (λ h. tt, λ h. tt)
 many-within room numbers ks m = (λ h. h, λ h. h)
 many-within room sizes ks m =
-    let d = many_deep ks (products-depth ks) m in
+    let d = many_deep ks (products_depth ks) m in
     (λ h. (h.0, h.1, omega arith), λ h. (h.0, h.1, omega arith))
 
 -- whether a token closes or opens products, or neither
@@ -69,13 +69,13 @@ factor_clear room left = two_clear (Counted 1 left) (ProbSaid room) (λ c s. (c,
 right-factor : (stop room : ℕ) (quantity : List Item → Out Tree) → ((l : List Item) → Right stop (ProbSaid room) (quantity l) l) → (left : ℕ) (ws : List Item)
     → Right stop (Factor room left) (factor stop quantity left ws) ws
 right-factor stop room quantity h left ws =
-    right-two stop (Counted 1 left) (ProbSaid room) (λ c s. (c, s)) (counted_clear 1 left) (prob_clear room) (prob_proper room).some
+    right_two stop (Counted 1 left) (ProbSaid room) (λ c s. (c, s)) (counted_clear 1 left) (prob_clear room) (prob_proper room).some
     (number 1 left stop ws) quantity ws (right-number stop 1 left ws) h
 
 -- what a product behind its `*` is
 record Factored (room left : ℕ) (w : Limits) (k : ℕ × Tree) (u v : Toks) : Type 0 where
   bounded : InBounds 1 left w k.0
-  sorted : Of-sort state k.1
+  sorted : OfSort state k.1
   within : ProbWithin room w k.1
   spelled : u ≡ Some (Numeral k.0) ∷ Some Open ∷ Some Prob ∷ write k.1 (Some Close ∷ Some Close ∷ v)
 
@@ -90,7 +90,7 @@ factored room left w k u v h =
       spelled = h.2.1 ∙ ap (λ l. Some (Numeral h.0) ∷ l) (q.spelled ∙ ap (λ l. Some Open ∷ Some Prob ∷ write h.3.0 (Some Close ∷ l)) e.1);
     })
 
-factor-of : (room left : ℕ) (w : Limits) (c : ℕ) (s : Tree) (v : Toks) → InBounds 1 left w c → Of-sort state s → ProbWithin room w s
+factor-of : (room left : ℕ) (w : Limits) (c : ℕ) (s : Tree) (v : Toks) → InBounds 1 left w c → OfSort state s → ProbWithin room w s
     → Factor room left w (c, s) (Some (Numeral c) ∷ Some Open ∷ Some Prob ∷ write s (Some Close ∷ Some Close ∷ v)) v
 factor-of room left w c s v b g h = (
   c,
@@ -147,7 +147,7 @@ module _ (stop room : ℕ) (element : Lexeme → ℕ → List Item → Out (ℕ 
       let c = k.0 in
       let s = k.1 in
       let ks = k.2 in
-      let good : Of-products (product c s ks) = subst (λ x. Of-products x) k.3 h.sorted in
+      let good : OfProducts (product c s ks) = subst (λ x. OfProducts x) k.3 h.sorted in
       let d = (product_within room r more left e w c s ks).0 (subst (λ x. SeveralWithin (suc more) left room w x) k.3 h.within) in
       let n : suc more ≤ 6 + count (product c s ks) = subst (λ x. suc more ≤ 6 + count x) k.3 h.enough in (
         (c, s),
@@ -176,7 +176,7 @@ module _ (stop room : ℕ) (element : Lexeme → ℕ → List Item → Out (ℕ 
           → Right stop (Several (suc more) left room) (read (element (record { token = Open; place = p }) left rest)) ((p, Some Open) ∷ rest)
       deep h =
           subst (λ o. Right stop (Several (suc more) left room) (read o) ((p, Some Open) ∷ rest)) (sym h.1)
-          (right-too-many stop (Several (suc more) left room) (several_proper (suc more) left room) p rest (several-opens (suc more) left room)
+          (right-too_many stop (Several (suc more) left room) (several_proper (suc more) left room) p rest (several-opens (suc more) left room)
           (λ b u v k.
           let g = products-shape b (Some Open ∷ u) v k.spelled in
           let d : SeveralWithin (suc more) left room sizes (product g.0 g.1 g.2) = subst (λ x. SeveralWithin (suc more) left room sizes x) g.3 k.within in
@@ -203,7 +203,7 @@ module _ (stop room : ℕ) (element : Lexeme → ℕ → List Item → Out (ℕ 
       right-next stop (Several 0 left room) (several_proper 0 left room) _ (λ p t rest.
       by_mark (λ k. Right stop (Several 0 left room) (cond (eqb 1 (code k)) (Ok (none, rest)) (cond (eqb 0 (code k)) (Err (TooMany p)) (Err (Misplaced p)))) ((p, Some k) ∷ rest))
       ((p, Some Close) ∷ [], refl, no-products 0 left (omega arith))
-      (right-too-many stop (Several 0 left room) (several_proper 0 left room) p rest (several-opens 0 left room)
+      (right-too_many stop (Several 0 left room) (several_proper 0 left room) p rest (several-opens 0 left room)
       (λ b u v k.
       let g = products-shape b (Some Open ∷ u) v k.spelled in
       let d : SeveralWithin 0 left room sizes (product g.0 g.1 g.2) = subst (λ x. SeveralWithin 0 left room sizes x) g.3 k.within in
@@ -238,33 +238,33 @@ module _ (stop room : ℕ) where
   no-sum sizes v = record { sorted = tt; within = (tt, omega arith, omega arith); spelled = refl }
 
   -- a sum that is 0, or begins with `(`
-  pub right-sum-begun : (behind : Out Products) (p : ℕ) (t : Token) (rest : List Item) → Right stop (Summed room) behind ((p, Some Open) ∷ rest)
+  pub right-sum_begun : (behind : Out Products) (p : ℕ) (t : Token) (rest : List Item) → Right stop (Summed room) behind ((p, Some Open) ∷ rest)
       → Right stop (Summed room) (sum_begun (record { token = t; place = p }) rest behind) ((p, Some t) ∷ rest)
-  right-sum-begun behind p Open rest h = h
-  right-sum-begun behind p Close rest h = sum-out room p Close rest (λ b u v k. k)
-  right-sum-begun behind p True rest h = sum-out room p True rest (λ b u v k. k)
-  right-sum-begun behind p False rest h = sum-out room p False rest (λ b u v k. k)
-  right-sum-begun behind p And rest h = sum-out room p And rest (λ b u v k. k)
-  right-sum-begun behind p Not rest h = sum-out room p Not rest (λ b u v k. k)
-  right-sum-begun behind p Dia rest h = sum-out room p Dia rest (λ b u v k. k)
-  right-sum-begun behind p Here rest h = sum-out room p Here rest (λ b u v k. k)
-  right-sum-begun behind p Prob rest h = sum-out room p Prob rest (λ b u v k. k)
-  right-sum-begun behind p AtLeast rest h = sum-out room p AtLeast rest (λ b u v k. k)
-  right-sum-begun behind p Plus rest h = sum-out room p Plus rest (λ b u v k. k)
-  right-sum-begun behind p Times rest h = sum-out room p Times rest (λ b u v k. k)
-  right-sum-begun behind p (Numeral n) rest h =
+  right-sum_begun behind p Open rest h = h
+  right-sum_begun behind p Close rest h = sum-out room p Close rest (λ b u v k. k)
+  right-sum_begun behind p True rest h = sum-out room p True rest (λ b u v k. k)
+  right-sum_begun behind p False rest h = sum-out room p False rest (λ b u v k. k)
+  right-sum_begun behind p And rest h = sum-out room p And rest (λ b u v k. k)
+  right-sum_begun behind p Not rest h = sum-out room p Not rest (λ b u v k. k)
+  right-sum_begun behind p Dia rest h = sum-out room p Dia rest (λ b u v k. k)
+  right-sum_begun behind p Here rest h = sum-out room p Here rest (λ b u v k. k)
+  right-sum_begun behind p Prob rest h = sum-out room p Prob rest (λ b u v k. k)
+  right-sum_begun behind p AtLeast rest h = sum-out room p AtLeast rest (λ b u v k. k)
+  right-sum_begun behind p Plus rest h = sum-out room p Plus rest (λ b u v k. k)
+  right-sum_begun behind p Times rest h = sum-out room p Times rest (λ b u v k. k)
+  right-sum_begun behind p (Numeral n) rest h =
       by_test (λ o. Right stop (Summed room) o ((p, Some (Numeral n)) ∷ rest)) (eqb n 0) (Ok (none, rest)) (Err (Misplaced p))
       (λ e. ((p, Some (Numeral n)) ∷ [], refl, λ w v. subst (λ m. Summed room w none (Some (Numeral m) ∷ v) v) (sym (eqb-true n 0 e)) (no-sum w v)))
       (λ e. sum-out room p (Numeral n) rest (λ b u v k. eqb-false n 0 e k.1))
 
-  sum-no-head : (p : ℕ) (t : Token) (rest : List Item) → ((b : Products) (u v : Toks) → SumHeaded t b u v → ⊥)
+  sum-no_head : (p : ℕ) (t : Token) (rest : List Item) → ((b : Products) (u v : Toks) → SumHeaded t b u v → ⊥)
       → Right stop (Sum-body room) (Err (Misplaced p)) ((p, Some t) ∷ rest)
-  sum-no-head p t rest never = right-misplaced stop (Sum-body room) (sum-body_proper room) p t rest (λ b u v h. never b u v (sum-shape b (Some Open ∷ Some t ∷ u) v h.spelled))
+  sum-no_head p t rest never = right-misplaced stop (Sum-body room) (sum-body_proper room) p t rest (λ b u v h. never b u v (sum-shape b (Some Open ∷ Some t ∷ u) v h.spelled))
 
   module _ (quantity : List Item → Out Tree) (element : Lexeme → ℕ → List Item → Out (ℕ × Tree))
       (quantities : (l : List Item) → Right stop (ProbSaid room) (quantity l) l) (elements : RightElement stop room element) where
-    right-times : (p : ℕ) (ws : List Item) → Right stop (Sum-body room) (alone (factor stop quantity 1000 ws)) ((p, Some Times) ∷ ws)
-    right-times p ws =
+    right_times : (p : ℕ) (ws : List Item) → Right stop (Sum-body room) (alone (factor stop quantity 1000 ws)) ((p, Some Times) ∷ ws)
+    right_times p ws =
         right-behind stop (Seq (Factor room 1000) (λ k. Done (product k.0 k.1 none))) (Sum-body room) ((p, Some Times) ∷ []) ws _
         (λ w b u v h.
         let f = factored room 1000 w h.0 u h.1 h.2 in
@@ -276,15 +276,15 @@ module _ (stop room : ℕ) where
         }))
         (λ w b u v h.
         let k = sum-shape b (Some Open ∷ Some Times ∷ u) v h.spelled in
-        let good : Of-products (product k.0 k.1 none) = subst (λ x. Of-products x) k.2 h.sorted in
+        let good : OfProducts (product k.0 k.1 none) = subst (λ x. OfProducts x) k.2 h.sorted in
         let d = (alone-within room w k.0 k.1).0 (subst (λ x. SumWithin (suc room) w x) k.2 h.within) in
         ((k.0, k.1), v, subst (λ l. Factor room 1000 w (k.0, k.1) l v) (sym k.3) (factor-of room 1000 w k.0 k.1 v d.0 good.0 d.1), (k.2, refl)))
         (right-then stop (Factor room 1000) (λ k. Done (product k.0 k.1 none)) (factor_clear room 1000) (factor stop quantity 1000 ws) _ ws
         (λ k. done-some (product k.0 k.1 none)) (right-factor stop room quantity quantities 1000 ws)
         (λ k r. right-done stop (product k.0 k.1 none) r))
 
-    right-plus : (p : ℕ) (ws : List Item) → Right stop (Sum-body room) (several stop element 8 1000 ws) ((p, Some Plus) ∷ ws)
-    right-plus p ws =
+    right_plus : (p : ℕ) (ws : List Item) → Right stop (Sum-body room) (several stop element 8 1000 ws) ((p, Some Plus) ∷ ws)
+    right_plus p ws =
         right-behind stop (Several 8 1000 room) (Sum-body room) ((p, Some Plus) ∷ []) ws _
         (λ w b u v h.
         let m : 2 ≤ count b = let n = h.enough in omega arith in
@@ -298,21 +298,21 @@ module _ (stop room : ℕ) where
         record { sorted = h.sorted; enough = let n = k.0 in omega arith; within = (many-within room w b k.0).0 h.within; spelled = k.1 })
         (right-several stop room element elements 8 1000 ws)
 
-    pub right-sum-headed : (p : ℕ) (t : Token) (rest : List Item)
+    pub right-sum_headed : (p : ℕ) (t : Token) (rest : List Item)
         → Right stop (Sum-body room) (sum_headed stop quantity element (record { token = t; place = p }) rest) ((p, Some t) ∷ rest)
-    right-sum-headed p Open rest = sum-no-head p Open rest (λ b u v k. k)
-    right-sum-headed p Close rest = sum-no-head p Close rest (λ b u v k. k)
-    right-sum-headed p True rest = sum-no-head p True rest (λ b u v k. k)
-    right-sum-headed p False rest = sum-no-head p False rest (λ b u v k. k)
-    right-sum-headed p And rest = sum-no-head p And rest (λ b u v k. k)
-    right-sum-headed p Not rest = sum-no-head p Not rest (λ b u v k. k)
-    right-sum-headed p Dia rest = sum-no-head p Dia rest (λ b u v k. k)
-    right-sum-headed p Here rest = sum-no-head p Here rest (λ b u v k. k)
-    right-sum-headed p Prob rest = sum-no-head p Prob rest (λ b u v k. k)
-    right-sum-headed p AtLeast rest = sum-no-head p AtLeast rest (λ b u v k. k)
-    right-sum-headed p Plus rest = right-plus p rest
-    right-sum-headed p Times rest = right-times p rest
-    right-sum-headed p (Numeral n) rest = sum-no-head p (Numeral n) rest (λ b u v k. k)
+    right-sum_headed p Open rest = sum-no_head p Open rest (λ b u v k. k)
+    right-sum_headed p Close rest = sum-no_head p Close rest (λ b u v k. k)
+    right-sum_headed p True rest = sum-no_head p True rest (λ b u v k. k)
+    right-sum_headed p False rest = sum-no_head p False rest (λ b u v k. k)
+    right-sum_headed p And rest = sum-no_head p And rest (λ b u v k. k)
+    right-sum_headed p Not rest = sum-no_head p Not rest (λ b u v k. k)
+    right-sum_headed p Dia rest = sum-no_head p Dia rest (λ b u v k. k)
+    right-sum_headed p Here rest = sum-no_head p Here rest (λ b u v k. k)
+    right-sum_headed p Prob rest = sum-no_head p Prob rest (λ b u v k. k)
+    right-sum_headed p AtLeast rest = sum-no_head p AtLeast rest (λ b u v k. k)
+    right-sum_headed p Plus rest = right_plus p rest
+    right-sum_headed p Times rest = right_times p rest
+    right-sum_headed p (Numeral n) rest = sum-no_head p (Numeral n) rest (λ b u v k. k)
 
 -- the probability of a state term, where no parenthesis may open any more, and where one may
 pub quantity_closed : (stop : ℕ) (ws : List Item)
@@ -321,7 +321,7 @@ quantity_closed stop ws =
     right-next stop (ProbSaid 0) (prob_proper 0) _ (λ p t rest.
     by_test (λ o. Right stop (ProbSaid 0) o ((p, Some t) ∷ rest)) (eqb 0 (code t)) (Err (TooMany p)) (Err (Misplaced p))
     (λ e. subst (λ k. Right stop (ProbSaid 0) (Err (TooMany p)) ((p, Some k) ∷ rest)) (sym (code-told Open t (λ k. omega arith) e))
-    (right-too-many stop (ProbSaid 0) (prob_proper 0) p rest (prob_opens 0) (λ b u v h. let d = h.within.1 in omega arith)))
+    (right-too_many stop (ProbSaid 0) (prob_proper 0) p rest (prob_opens 0) (λ b u v h. let d = h.within.1 in omega arith)))
     (λ e. right-misplaced stop (ProbSaid 0) (prob_proper 0) p t rest (λ b u v h.
     let q = h.spelled in
     let k : t ≡ Open = cc in
@@ -336,8 +336,8 @@ quantity_opened stop room terms rights ws =
     let e = h.3.3.3 in
     let k : h.3.3.0 ≡ b = sym e.0 in
     record {
-      sorted = subst (λ x. Of-sort state x) k s.sorted;
-      within = subst (λ x. ProbWithin (suc room) w x) k ((prob-within w h.3.3.0).1 s.within);
+      sorted = subst (λ x. OfSort state x) k s.sorted;
+      within = subst (λ x. ProbWithin (suc room) w x) k ((prob_within w h.3.3.0).1 s.within);
       spelled = h.2.1 ∙ ap (λ l. Some Open ∷ l) (h.3.2.1
           ∙ ap (λ l. Some Prob ∷ l) (s.spelled ∙ ap (λ l. write h.3.3.0 l) e.1 ∙ ap (λ x. write x (Some Close ∷ v)) k));
     })
@@ -349,7 +349,7 @@ quantity_opened stop room terms rights ws =
         tt,
         write b (Some Close ∷ v),
         (refl, refl),
-        (b, Some Close ∷ v, record { sorted = h.sorted; within = (prob-within w b).0 h.within; spelled = refl }, (refl, refl)),
+        (b, Some Close ∷ v, record { sorted = h.sorted; within = (prob_within w b).0 h.within; spelled = refl }, (refl, refl)),
       ),
     ))
     (right-then stop (Just {A = Unit {0}} Open tt) (λ _. inner) (just_clear {A = Unit {0}} Open tt) (expect Open stop ws) _ ws
@@ -368,10 +368,10 @@ quantity_opened stop room terms rights ws =
     some : Begins inmost []
     some = one_some (Said room state) (λ s. s) (said_proper room state).some
 
-    prob-within : (w : Limits) (s : Tree) → ProbWithin (suc room) w s ↔ Within room w s
-    prob-within free s = (λ h. tt, λ h. tt)
-    prob-within numbers s = (λ h. h, λ h. h)
-    prob-within sizes s = (λ h. (h.0, omega arith), λ h. (h.0, omega arith))
+    prob_within : (w : Limits) (s : Tree) → ProbWithin (suc room) w s ↔ Within room w s
+    prob_within free s = (λ h. tt, λ h. tt)
+    prob_within numbers s = (λ h. h, λ h. h)
+    prob_within sizes s = (λ h. (h.0, omega arith), λ h. (h.0, omega arith))
 
 -- a product behind its opening parenthesis, where another may open
 pub element_opened : (stop r left : ℕ) (quantity : List Item → Out Tree) → ((ws : List Item) → Right stop (ProbSaid r) (quantity ws) ws) → (ws : List Item)

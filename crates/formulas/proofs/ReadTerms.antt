@@ -5,11 +5,11 @@ use Rattle.formulas.specs.declared.token.Token.{Token}
 use Rattle.formulas.specs.declared.token.Token.TheVariants.{Open, Close, True, False, And, Not, Dia, Here, Prob, AtLeast, Plus, Times, Numeral}
 use Rattle.formulas.specs.Grammar.{Item, Out, then, number, closed, begun, headed}
 use Rattle.formulas.specs.Lines.{Sort, state, dist}
-use Rattle.formulas.specs.Trees.{Tree, leaf, conj, neg, dia, here, at_least, Products, Of-sort}
+use Rattle.formulas.specs.Trees.{Tree, leaf, conj, neg, dia, here, at_least, Products, OfSort}
 use Rattle.formulas.proofs.Written.{Toks, write, write_sum, Headed, shape}
 use Rattle.formulas.proofs.Outcomes.{Limits, free, numbers, sizes, Right, right-behind, One, Two, right-misplaced}
 use Rattle.formulas.proofs.Languages.{InBounds, Counted, counted_proper, counted_clear, Within, Said, said_proper, said_clear, Body, body_proper, SumWithin, Summed, summed_clear}
-use Rattle.formulas.proofs.ReadTokens.{right-one, right-two, right-number}
+use Rattle.formulas.proofs.ReadTokens.{right-one, right_two, right-number}
 
 module _ (stop : ℕ) where
   -- a term that is true, false, or begins with `(`
@@ -71,7 +71,7 @@ module _ (stop room : ℕ) (sub : Sort → List Item → Out Tree) (sums : List 
     (subs : (τ : Sort) (l : List Item) → Right stop (Said room τ) (sub τ l) l)
     (adds : (l : List Item) → Right stop (Summed room) (sums l) l) where
   -- a term of the sort σ with one part, of the sort τ
-  right-only : (σ τ : Sort) (t : Token) (make : Tree → Tree) (sorts : (x : Tree) → Of-sort σ (make x) ↔ Of-sort τ x)
+  right-only : (σ τ : Sort) (t : Token) (make : Tree → Tree) (sorts : (x : Tree) → OfSort σ (make x) ↔ OfSort τ x)
       (limits : (w : Limits) (x : Tree) → Within (suc room) w (make x) ↔ Within room w x)
       (words : (x : Tree) (v : Toks) → Some Open ∷ Some t ∷ write x (Some Close ∷ v) ≡ write (make x) v)
       (shaped : (b : Tree) (u v : Toks) → Some Open ∷ Some t ∷ u ≡ write b v → (x : Tree) × (b ≡ make x) × (u ≡ write x (Some Close ∷ v)))
@@ -91,7 +91,7 @@ module _ (stop room : ℕ) (sub : Sort → List Item → Out Tree) (sums : List 
         k.0,
         Some Close ∷ v,
         record {
-          sorted = (sorts k.0).0 (subst (λ c. Of-sort σ c) k.1 h.sorted);
+          sorted = (sorts k.0).0 (subst (λ c. OfSort σ c) k.1 h.sorted);
           within = (limits w k.0).0 (subst (λ c. Within (suc room) w c) k.1 h.within);
           spelled = k.2;
         },
@@ -122,14 +122,14 @@ module _ (stop room : ℕ) (sub : Sort → List Item → Out Tree) (sums : List 
       }))
       (λ w b u v h.
       let k = shape b (Some Open ∷ Some And ∷ u) v h.spelled in
-      let s : Of-sort σ (conj k.0 k.1) = subst (λ c. Of-sort σ c) k.2 h.sorted in
+      let s : OfSort σ (conj k.0 k.1) = subst (λ c. OfSort σ c) k.2 h.sorted in
       let d = (conj_within room w k.0 k.1).0 (subst (λ c. Within (suc room) w c) k.2 h.within) in (
         k.0,
         write k.1 (Some Close ∷ v),
         record { sorted = s.0; within = d.0; spelled = k.3 },
         (k.1, Some Close ∷ v, record { sorted = s.1; within = d.1; spelled = refl }, (k.2, refl)),
       ))
-      (right-two stop (Said room σ) (Said room σ) (λ a b. conj a b) (said_clear room σ) (said_clear room σ) (said_proper room σ).some (sub σ ws) (sub σ) ws (subs σ ws) (subs σ))
+      (right_two stop (Said room σ) (Said room σ) (λ a b. conj a b) (said_clear room σ) (said_clear room σ) (said_proper room σ).some (sub σ ws) (sub σ) ws (subs σ ws) (subs σ))
 
   right-dia : (p : ℕ) (ws : List Item)
       → Right stop (Body room state) (then (number 0 31 stop ws) (λ n r. then (sub dist r) (λ d s. closed stop (dia n d) s))) ((p, Some Dia) ∷ ws)
@@ -146,19 +146,19 @@ module _ (stop room : ℕ) (sub : Sort → List Item → Out Tree) (sums : List 
       }))
       (λ w b u v h.
       let k = shape b (Some Open ∷ Some Dia ∷ u) v h.spelled in
-      let s : Of-sort state (dia k.0 k.1) = subst (λ c. Of-sort state c) k.2 h.sorted in
+      let s : OfSort state (dia k.0 k.1) = subst (λ c. OfSort state c) k.2 h.sorted in
       let d = (dia_within room w k.0 k.1).0 (subst (λ c. Within (suc room) w c) k.2 h.within) in (
         k.0,
         write k.1 (Some Close ∷ v),
         (d.0, k.3),
         (k.1, Some Close ∷ v, record { sorted = s; within = d.1; spelled = refl }, (k.2, refl)),
       ))
-      (right-two stop (Counted 0 31) (Said room dist) (λ n d. dia n d) (counted_clear 0 31) (said_clear room dist) (said_proper room dist).some
+      (right_two stop (Counted 0 31) (Said room dist) (λ n d. dia n d) (counted_clear 0 31) (said_clear room dist) (said_proper room dist).some
       (number 0 31 stop ws) (sub dist) ws (right-number stop 0 31 ws) (subs dist))
 
-  right-at-least : (p : ℕ) (ws : List Item)
+  right-at_least : (p : ℕ) (ws : List Item)
       → Right stop (Body room dist) (then (sums ws) (λ ks r. then (number 0 1000 stop r) (λ n s. closed stop (at_least ks n) s))) ((p, Some AtLeast) ∷ ws)
-  right-at-least p ws =
+  right-at_least p ws =
       right-behind stop (Two (Summed room) (Counted 0 1000) (λ ks n. at_least ks n)) (Body room dist) ((p, Some AtLeast) ∷ []) ws _
       (λ w b u v h.
       let x = h.2 in
@@ -171,43 +171,43 @@ module _ (stop room : ℕ) (sub : Sort → List Item → Out Tree) (sums : List 
       }))
       (λ w b u v h.
       let k = shape b (Some Open ∷ Some AtLeast ∷ u) v h.spelled in
-      let s : Of-sort dist (at_least k.0 k.1) = subst (λ c. Of-sort dist c) k.2 h.sorted in
+      let s : OfSort dist (at_least k.0 k.1) = subst (λ c. OfSort dist c) k.2 h.sorted in
       let d = (at_least_within room w k.0 k.1).0 (subst (λ c. Within (suc room) w c) k.2 h.within) in (
         k.0,
         Some (Numeral k.1) ∷ Some Close ∷ v,
         record { sorted = s; within = d.0; spelled = k.3 },
         (k.1, Some Close ∷ v, (d.1, refl), (k.2, refl)),
       ))
-      (right-two stop (Summed room) (Counted 0 1000) (λ ks n. at_least ks n) (summed_clear room) (counted_clear 0 1000) (counted_proper 0 1000).some
+      (right_two stop (Summed room) (Counted 0 1000) (λ ks n. at_least ks n) (summed_clear room) (counted_clear 0 1000) (counted_proper 0 1000).some
       (sums ws) (number 0 1000 stop) ws (adds ws) (right-number stop 0 1000))
 
-  no-head : (σ : Sort) (p : ℕ) (t : Token) (rest : List Item) → ((b : Tree) (u v : Toks) → Headed t b u v → Of-sort σ b → ⊥)
+  no_head : (σ : Sort) (p : ℕ) (t : Token) (rest : List Item) → ((b : Tree) (u v : Toks) → Headed t b u v → OfSort σ b → ⊥)
       → Right stop (Body room σ) (Err (Misplaced p)) ((p, Some t) ∷ rest)
-  no-head σ p t rest never = right-misplaced stop (Body room σ) (body_proper room σ) p t rest (λ b u v h. never b u v (shape b (Some Open ∷ Some t ∷ u) v h.spelled) h.sorted)
+  no_head σ p t rest never = right-misplaced stop (Body room σ) (body_proper room σ) p t rest (λ b u v h. never b u v (shape b (Some Open ∷ Some t ∷ u) v h.spelled) h.sorted)
 
   pub right-headed : (σ : Sort) (p : ℕ) (t : Token) (rest : List Item)
       → Right stop (Body room σ) (headed stop sub sums σ (record { token = t; place = p }) rest) ((p, Some t) ∷ rest)
   right-headed σ p And rest = right-and σ p rest
   right-headed σ p Not rest = right-not σ p rest
   right-headed state p Dia rest = right-dia p rest
-  right-headed dist p Dia rest = no-head dist p Dia rest (λ b u v h s. subst (λ c. Of-sort dist c) h.2 s)
+  right-headed dist p Dia rest = no_head dist p Dia rest (λ b u v h s. subst (λ c. OfSort dist c) h.2 s)
   right-headed state p Here rest = right-here p rest
-  right-headed dist p Here rest = no-head dist p Here rest (λ b u v h s. subst (λ c. Of-sort dist c) h.1 s)
-  right-headed state p AtLeast rest = no-head state p AtLeast rest (λ b u v h s. subst (λ c. Of-sort state c) h.2 s)
-  right-headed dist p AtLeast rest = right-at-least p rest
-  right-headed state p Open rest = no-head state p Open rest (λ b u v h s. h)
-  right-headed dist p Open rest = no-head dist p Open rest (λ b u v h s. h)
-  right-headed state p Close rest = no-head state p Close rest (λ b u v h s. h)
-  right-headed dist p Close rest = no-head dist p Close rest (λ b u v h s. h)
-  right-headed state p True rest = no-head state p True rest (λ b u v h s. h)
-  right-headed dist p True rest = no-head dist p True rest (λ b u v h s. h)
-  right-headed state p False rest = no-head state p False rest (λ b u v h s. h)
-  right-headed dist p False rest = no-head dist p False rest (λ b u v h s. h)
-  right-headed state p Prob rest = no-head state p Prob rest (λ b u v h s. h)
-  right-headed dist p Prob rest = no-head dist p Prob rest (λ b u v h s. h)
-  right-headed state p Plus rest = no-head state p Plus rest (λ b u v h s. h)
-  right-headed dist p Plus rest = no-head dist p Plus rest (λ b u v h s. h)
-  right-headed state p Times rest = no-head state p Times rest (λ b u v h s. h)
-  right-headed dist p Times rest = no-head dist p Times rest (λ b u v h s. h)
-  right-headed state p (Numeral n) rest = no-head state p (Numeral n) rest (λ b u v h s. h)
-  right-headed dist p (Numeral n) rest = no-head dist p (Numeral n) rest (λ b u v h s. h)
+  right-headed dist p Here rest = no_head dist p Here rest (λ b u v h s. subst (λ c. OfSort dist c) h.1 s)
+  right-headed state p AtLeast rest = no_head state p AtLeast rest (λ b u v h s. subst (λ c. OfSort state c) h.2 s)
+  right-headed dist p AtLeast rest = right-at_least p rest
+  right-headed state p Open rest = no_head state p Open rest (λ b u v h s. h)
+  right-headed dist p Open rest = no_head dist p Open rest (λ b u v h s. h)
+  right-headed state p Close rest = no_head state p Close rest (λ b u v h s. h)
+  right-headed dist p Close rest = no_head dist p Close rest (λ b u v h s. h)
+  right-headed state p True rest = no_head state p True rest (λ b u v h s. h)
+  right-headed dist p True rest = no_head dist p True rest (λ b u v h s. h)
+  right-headed state p False rest = no_head state p False rest (λ b u v h s. h)
+  right-headed dist p False rest = no_head dist p False rest (λ b u v h s. h)
+  right-headed state p Prob rest = no_head state p Prob rest (λ b u v h s. h)
+  right-headed dist p Prob rest = no_head dist p Prob rest (λ b u v h s. h)
+  right-headed state p Plus rest = no_head state p Plus rest (λ b u v h s. h)
+  right-headed dist p Plus rest = no_head dist p Plus rest (λ b u v h s. h)
+  right-headed state p Times rest = no_head state p Times rest (λ b u v h s. h)
+  right-headed dist p Times rest = no_head dist p Times rest (λ b u v h s. h)
+  right-headed state p (Numeral n) rest = no_head state p (Numeral n) rest (λ b u v h s. h)
+  right-headed dist p (Numeral n) rest = no_head dist p (Numeral n) rest (λ b u v h s. h)

@@ -6,7 +6,7 @@ use Rattle.formulas.specs.declared.token.Token.{Token}
 use Rattle.formulas.specs.declared.token.Token.TheVariants.{Open, Close, True, False, And, Not, Dia, Here, Prob, AtLeast, Plus, Times, Numeral}
 use Rattle.formulas.specs.Grammar.{Item, Out, then, code, expect, value, ranged, number, closed}
 use Rattle.formulas.proofs.Written.{Toks}
-use Rattle.formulas.proofs.Outcomes.{Limits, free, numbers, sizes, Lang, Begins, Right, Clear, Proper, right-behind, Seq, right-then, Done, right-done, done-some, Just, just_clear, just_some, One, Two, one_some, right-next, right-misplaced, right-out-of-range}
+use Rattle.formulas.proofs.Outcomes.{Limits, free, numbers, sizes, Lang, Begins, Right, Clear, Proper, right-behind, Seq, right-then, Done, right-done, done-some, Just, just_clear, just_some, One, Two, one_some, right-next, right-misplaced, right_out_of_range}
 use Rattle.formulas.proofs.Languages.{InBounds, Counted, counted_proper, number-shape, NumberStarted}
 
 -- a test keeps what both of its ways have
@@ -98,7 +98,7 @@ module _ (stop : ℕ) where
       each p (Numeral n) rest =
           by_test (λ o. Right stop (Counted low high) o ((p, Some (Numeral n)) ∷ rest)) (leb low n && leb n high) (Ok (n, rest)) (Err (OutOfRange p))
           (λ e. ((p, Some (Numeral n)) ∷ [], refl, λ w v. (inside n e w, refl)))
-          (λ e. right-out-of-range stop (Counted low high) (counted_proper low high) p n rest (n, λ v. (v, (tt, refl)))
+          (λ e. right_out_of_range stop (Counted low high) (counted_proper low high) p n rest (n, λ v. (v, (tt, refl)))
           (λ b u v h. outside n b e (number-shape b (Some (Numeral n) ∷ u) v h.1).0 h.0.0 h.0.1))
 
   -- a part and a `)`; two parts and a `)`
@@ -107,7 +107,7 @@ module _ (stop : ℕ) where
   right-one L make clear o ws h =
       right-then stop L (λ x. Just Close (make x)) clear o _ ws (λ x. just_some Close (make x)) h (λ x r. right-closed (make x) r)
 
-  pub right-two : {X Y B : Type 0} (L : Lang X) (M : Lang Y) (make : X → Y → B) → Clear L → Clear M → Begins M [] → (o : Out X) (f : List Item → Out Y) (ws : List Item)
+  pub right_two : {X Y B : Type 0} (L : Lang X) (M : Lang Y) (make : X → Y → B) → Clear L → Clear M → Begins M [] → (o : Out X) (f : List Item → Out Y) (ws : List Item)
       → Right stop L o ws → ((l : List Item) → Right stop M (f l) l) → Right stop (Two L M make) (then o (λ x r. then (f r) (λ y s. closed stop (make x y) s))) ws
-  right-two L M make clear clear' some o f ws h k =
+  right_two L M make clear clear' some o f ws h k =
       right-then stop L (λ x. One M (make x)) clear o _ ws (λ x. one_some M (make x) some) h (λ x r. right-one M (make x) clear' (f r) r (k r))

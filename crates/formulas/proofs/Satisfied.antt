@@ -19,8 +19,8 @@ module _ {X : Type 0} (d : X) (p : X → Bool) (P : X → Type 0) where
   some-any g (x ∷ xs) (suc k) l h = or_right (p x) (any p xs) (some-any g xs k (le_of_suc-le-suc l) h)
 
   -- some entry passes the test exactly if P holds of some entry
-  some-iff : ((x : X) → Iff (p x ≡ true) (P x)) → (xs : List X) → Iff (any p xs ≡ true) (Some d xs P)
-  some-iff f xs = (any_some (λ x. (f x).0) xs, λ h. some-any (λ x. (f x).1) xs h.0 h.1 h.2)
+  some_iff : ((x : X) → Iff (p x ≡ true) (P x)) → (xs : List X) → Iff (any p xs ≡ true) (Some d xs P)
+  some_iff f xs = (any_some (λ x. (f x).0) xs, λ h. some-any (λ x. (f x).1) xs h.0 h.1 h.2)
 
 same : {A : Type 0} → Iff A A
 same = (λ h. h, λ h. h)
@@ -47,19 +47,19 @@ module _ (S : Meaning) (ls : List Line) where
   abbrev of : ℕ → Move → Bool
   of = of_node (truths S ls)
 
-  in-line : (s : ℕ) (l : Line) → Iff (holds_at S at of l s ≡ true) (SatisfiedIn S ls s l)
-  in-line s (constant state true) = everywhere
-  in-line s (constant state false) = nowhere
-  in-line s (constant dist b) = nowhere
-  in-line s (both state i j) = and_iff (at i s) (at j s)
-  in-line s (both dist i j) = nowhere
-  in-line s (non state i) = not_iff (at i s)
-  in-line s (non dist i) = nowhere
-  in-line s (step a ms hs) =
+  in_line : (s : ℕ) (l : Line) → Iff (holds_at S at of l s ≡ true) (SatisfiedIn S ls s l)
+  in_line s (constant state true) = everywhere
+  in_line s (constant state false) = nowhere
+  in_line s (constant dist b) = nowhere
+  in_line s (both state i j) = and_iff (at i s) (at j s)
+  in_line s (both dist i j) = nowhere
+  in_line s (non state i) = not_iff (at i s)
+  in_line s (non dist i) = nowhere
+  in_line s (step a ms hs) =
       or_iff _ _ _ _
-      (some-iff [] (λ mv. any (λ d. of d mv) ms) (λ mv. Some 0 ms (λ d. of d mv ≡ true)) (λ mv. some-iff 0 (λ d. of d mv) (λ d. of d mv ≡ true) (λ d. same) ms) (S.moves s a))
-      (some-iff 0 (λ d. of d (point S s)) (λ d. of d (point S s) ≡ true) (λ d. same) hs)
-  in-line s (sum t ks) = nowhere
+      (some_iff [] (λ mv. any (λ d. of d mv) ms) (λ mv. Some 0 ms (λ d. of d mv ≡ true)) (λ mv. some_iff 0 (λ d. of d mv) (λ d. of d mv ≡ true) (λ d. same) ms) (S.moves s a))
+      (some_iff 0 (λ d. of d (point S s)) (λ d. of d (point S s) ≡ true) (λ d. same) hs)
+  in_line s (sum t ks) = nowhere
 
   of-line : (mv : Move) (l : Line) → Iff (holds_of S at of l mv ≡ true) (SatisfiedOf S ls mv l)
   of-line mv (constant dist true) = everywhere
@@ -77,7 +77,7 @@ moved : (b c : Bool) (C : Type 0) → b ≡ c → Iff (c ≡ true) C → Iff (b 
 moved b c C e f = (λ h. f.0 (sym e ∙ h), λ h. e ∙ f.1 h)
 
 pub in_law : InLaw
-in_law S ls i s formed l = moved _ _ _ (ap (λ t. t.at s) (truths-at S ls formed i l)) (in-line S ls s (get_or ls i (constant state true)))
+in_law S ls i s formed l = moved _ _ _ (ap (λ t. t.at s) (truths-at S ls formed i l)) (in_line S ls s (get_or ls i (constant state true)))
 
 pub of-law : OfLaw
 of-law S ls i mv formed l = moved _ _ _ (ap (λ t. t.of mv) (truths-at S ls formed i l)) (of-line S ls mv (get_or ls i (constant state true)))

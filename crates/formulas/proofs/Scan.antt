@@ -55,8 +55,8 @@ module _ (text : List ℕ) (p : ℕ) (m : Mode) (at : ℕ) (h : Scan text p m at
     begun = s.1 low lt h.begun;
   }
 
-  pub close-mode : (s : ℕ) → Close s ≡ turned m (kind (get_or text at 0)) at → (p ≤ s) × (s < at) × (at ≤ length text)
-  close-mode s e = subst (λ n. Begun n p at (length text)) (said (Close s) e).0 h.begun
+  pub close_mode : (s : ℕ) → Close s ≡ turned m (kind (get_or text at 0)) at → (p ≤ s) × (s < at) × (at ≤ length text)
+  close_mode s e = subst (λ n. Begun n p at (length text)) (said (Close s) e).0 h.begun
 
   pub close : (s : ℕ) → Close s ≡ turned m (kind (get_or text at 0)) at → onward text p ≡ (s, at) ∷ onward text at
   close s e = sym h.same ∙ here m ∙ (said (Close s) e).1 ∙ ap (λ l. (s, at) ∷ l) (sym (here Between))

@@ -2,8 +2,8 @@
 use Rattle.std.proofs.Common.{◌≡◌, ℕ, suc, ◌+◌, List, [], ◌∷◌, ◌++◌, length, sym, refl, ap, ◌∙◌, append_assoc, add-zero, add_assoc, arith, length-append}
 use Rattle.formulas.specs.Layout.{node, terms_in, alternatives_in, node_table, term_table, alternative_table}
 use Rattle.formulas.specs.Lines.{Sort, state, dist, Line}
-use Rattle.formulas.specs.Stores.{term-count, term-counts, step_count, step_counts}
-use Rattle.formulas.specs.Trees.{Tree, leaf, conj, neg, dia, here, at_least, Products, none, product, below, below-products, count, terms, lay, lay-products}
+use Rattle.formulas.specs.Stores.{term-count, term_counts, step_count, step_counts}
+use Rattle.formulas.specs.Trees.{Tree, leaf, conj, neg, dia, here, at_least, Products, none, product, below, below_products, count, terms, lay, lay_products}
 
 pub term_table-++ : (ls ms : List Line) → term_table (ls ++ ms) ≡ term_table ls ++ term_table ms
 term_table-++ [] ms = refl
@@ -30,38 +30,38 @@ mutual
   length-lay σ n (neg x) = simp length-append (omega (arith, length-lay σ n x))
   length-lay σ n (dia a d) = simp length-append (omega (arith, length-lay dist n d))
   length-lay σ n (here d) = simp length-append (omega (arith, length-lay dist n d))
-  length-lay σ n (at_least ks t) = simp length-append (omega (arith, length-lay-products n ks))
+  length-lay σ n (at_least ks t) = simp length-append (omega (arith, length-lay_products n ks))
 
-  length-lay-products : (n : ℕ) (ks : Products) → length (lay-products n ks) ≡ below-products ks
-  length-lay-products n none = refl
-  length-lay-products n (product c s ks) = simp length-append (omega (arith, length-lay state n s, length-lay-products (n + below s + 1) ks))
+  length-lay_products : (n : ℕ) (ks : Products) → length (lay_products n ks) ≡ below_products ks
+  length-lay_products n none = refl
+  length-lay_products n (product c s ks) = simp length-append (omega (arith, length-lay state n s, length-lay_products (n + below s + 1) ks))
 
 length-terms : (n : ℕ) (ks : Products) → length (terms n ks) ≡ count ks
 length-terms n none = refl
 length-terms n (product c s ks) = omega (arith, length-terms (n + below s + 1) ks)
 
 mutual
-  pub length-term-table : (σ : Sort) (n : ℕ) (x : Tree) → length (term_table (lay σ n x)) ≡ term-count x
-  length-term-table σ n (leaf b) = refl
-  length-term-table σ n (conj x y) = simp (term_table-++, length-append) (omega (arith, length-term-table σ n x, length-term-table σ (n + below x + 1) y))
-  length-term-table σ n (neg x) = simp (term_table-++, length-append) (omega (arith, length-term-table σ n x))
-  length-term-table σ n (dia a d) = simp (term_table-++, length-append) (omega (arith, length-term-table dist n d))
-  length-term-table σ n (here d) = simp (term_table-++, length-append) (omega (arith, length-term-table dist n d))
-  length-term-table σ n (at_least ks t) = simp (term_table-++, length-append) (omega (arith, length-term-tables n ks, length-terms n ks))
+  pub length-term_table : (σ : Sort) (n : ℕ) (x : Tree) → length (term_table (lay σ n x)) ≡ term-count x
+  length-term_table σ n (leaf b) = refl
+  length-term_table σ n (conj x y) = simp (term_table-++, length-append) (omega (arith, length-term_table σ n x, length-term_table σ (n + below x + 1) y))
+  length-term_table σ n (neg x) = simp (term_table-++, length-append) (omega (arith, length-term_table σ n x))
+  length-term_table σ n (dia a d) = simp (term_table-++, length-append) (omega (arith, length-term_table dist n d))
+  length-term_table σ n (here d) = simp (term_table-++, length-append) (omega (arith, length-term_table dist n d))
+  length-term_table σ n (at_least ks t) = simp (term_table-++, length-append) (omega (arith, length_term_tables n ks, length-terms n ks))
 
-  length-term-tables : (n : ℕ) (ks : Products) → length (term_table (lay-products n ks)) ≡ term-counts ks
-  length-term-tables n none = refl
-  length-term-tables n (product c s ks) = simp (term_table-++, length-append) (omega (arith, length-term-table state n s, length-term-tables (n + below s + 1) ks))
+  length_term_tables : (n : ℕ) (ks : Products) → length (term_table (lay_products n ks)) ≡ term_counts ks
+  length_term_tables n none = refl
+  length_term_tables n (product c s ks) = simp (term_table-++, length-append) (omega (arith, length-term_table state n s, length_term_tables (n + below s + 1) ks))
 
 mutual
-  pub length-alternative-table : (σ : Sort) (n : ℕ) (x : Tree) → length (alternative_table (lay σ n x)) ≡ step_count x
-  length-alternative-table σ n (leaf b) = refl
-  length-alternative-table σ n (conj x y) = simp (alternative_table-++, length-append) (omega (arith, length-alternative-table σ n x, length-alternative-table σ (n + below x + 1) y))
-  length-alternative-table σ n (neg x) = simp (alternative_table-++, length-append) (omega (arith, length-alternative-table σ n x))
-  length-alternative-table σ n (dia a d) = simp (alternative_table-++, length-append) (omega (arith, length-alternative-table dist n d))
-  length-alternative-table σ n (here d) = simp (alternative_table-++, length-append) (omega (arith, length-alternative-table dist n d))
-  length-alternative-table σ n (at_least ks t) = simp (alternative_table-++, length-append) (omega (arith, length-alternative-tables n ks))
+  pub length-alternative_table : (σ : Sort) (n : ℕ) (x : Tree) → length (alternative_table (lay σ n x)) ≡ step_count x
+  length-alternative_table σ n (leaf b) = refl
+  length-alternative_table σ n (conj x y) = simp (alternative_table-++, length-append) (omega (arith, length-alternative_table σ n x, length-alternative_table σ (n + below x + 1) y))
+  length-alternative_table σ n (neg x) = simp (alternative_table-++, length-append) (omega (arith, length-alternative_table σ n x))
+  length-alternative_table σ n (dia a d) = simp (alternative_table-++, length-append) (omega (arith, length-alternative_table dist n d))
+  length-alternative_table σ n (here d) = simp (alternative_table-++, length-append) (omega (arith, length-alternative_table dist n d))
+  length-alternative_table σ n (at_least ks t) = simp (alternative_table-++, length-append) (omega (arith, length_alternative_tables n ks))
 
-  length-alternative-tables : (n : ℕ) (ks : Products) → length (alternative_table (lay-products n ks)) ≡ step_counts ks
-  length-alternative-tables n none = refl
-  length-alternative-tables n (product c s ks) = simp (alternative_table-++, length-append) (omega (arith, length-alternative-table state n s, length-alternative-tables (n + below s + 1) ks))
+  length_alternative_tables : (n : ℕ) (ks : Products) → length (alternative_table (lay_products n ks)) ≡ step_counts ks
+  length_alternative_tables n none = refl
+  length_alternative_tables n (product c s ks) = simp (alternative_table-++, length-append) (omega (arith, length-alternative_table state n s, length_alternative_tables (n + below s + 1) ks))

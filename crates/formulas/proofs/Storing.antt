@@ -8,8 +8,8 @@ use Rattle.formulas.specs.declared.summands.Summands.{Summands}
 use Rattle.formulas.specs.Append.{capped, raised, Table, Puts}
 use Rattle.formulas.specs.Layout.{run, constant_node, both_node, non_node, node_table, term_table, alternative_table}
 use Rattle.formulas.specs.Lines.{Sort, state, dist, Line, both, non, step, sum}
-use Rattle.formulas.specs.Stores.{Store, extended, added, Small, Counted, Wrote, Factored, Summed, PutsMove, PutsHere, PutsSum, term-count, term-counts, step_count, step_counts}
-use Rattle.formulas.specs.Trees.{Tree, leaf, conj, neg, dia, here, at_least, Products, none, product, below, below-products, count, terms, lay, lay-products}
+use Rattle.formulas.specs.Stores.{Store, extended, added, Small, Counted, Wrote, Factored, Summed, PutsMove, PutsHere, PutsSum, term-count, term_counts, step_count, step_counts}
+use Rattle.formulas.specs.Trees.{Tree, leaf, conj, neg, dia, here, at_least, Products, none, product, below, below_products, count, terms, lay, lay_products}
 use Rattle.formulas.proofs.Sizes.{term_table-++, alternative_table-++, node_table-++}
 use Rattle.formulas.proofs.Pasted.{written-++}
 
@@ -190,11 +190,11 @@ abbrev pub joined : Products → Products → Products
 joined none ks = ks
 joined (product c t ds) ks = product c t (joined ds ks)
 
-below-joined : (ds ks : Products) → below-products (joined ds ks) ≡ below-products ds + below-products ks
+below-joined : (ds ks : Products) → below_products (joined ds ks) ≡ below_products ds + below_products ks
 below-joined none ks = omega arith
 below-joined (product c t ds) ks = omega (arith, below-joined ds ks)
 
-terms-joined : (ds ks : Products) → term-counts (joined ds ks) ≡ term-counts ds + term-counts ks
+terms-joined : (ds ks : Products) → term_counts (joined ds ks) ≡ term_counts ds + term_counts ks
 terms-joined none ks = omega arith
 terms-joined (product c t ds) ks = omega (arith, terms-joined ds ks)
 
@@ -206,17 +206,17 @@ count-joined : (ds ks : Products) → count (joined ds ks) ≡ count ds + count 
 count-joined none ks = omega arith
 count-joined (product c t ds) ks = omega (arith, count-joined ds ks)
 
-list_joined : (n : ℕ) (ds ks : Products) → terms n (joined ds ks) ≡ terms n ds ++ terms (n + below-products ds) ks
+list_joined : (n : ℕ) (ds ks : Products) → terms n (joined ds ks) ≡ terms n ds ++ terms (n + below_products ds) ks
 list_joined n none ks = ap (λ k. terms k ks) (sym (add-zero n))
 list_joined n (product c t ds) ks =
     ap (λ l. record { coefficient = c; node = n + below t } ∷ l)
     (list_joined (n + below t + 1) ds ks ∙ ap (λ k. terms (n + below t + 1) ds ++ terms k ks) (omega arith))
 
-lay-joined : (n : ℕ) (ds ks : Products) → lay-products n (joined ds ks) ≡ lay-products n ds ++ lay-products (n + below-products ds) ks
-lay-joined n none ks = ap (λ k. lay-products k ks) (sym (add-zero n))
+lay-joined : (n : ℕ) (ds ks : Products) → lay_products n (joined ds ks) ≡ lay_products n ds ++ lay_products (n + below_products ds) ks
+lay-joined n none ks = ap (λ k. lay_products k ks) (sym (add-zero n))
 lay-joined n (product c t ds) ks =
-    ap (λ l. lay state n t ++ l) (lay-joined (n + below t + 1) ds ks ∙ ap (λ k. lay-products (n + below t + 1) ds ++ lay-products k ks) (omega arith))
-    ∙ sym (append_assoc (lay state n t) (lay-products (n + below t + 1) ds) (lay-products (n + (below t + 1 + below-products ds)) ks))
+    ap (λ l. lay state n t ++ l) (lay-joined (n + below t + 1) ds ks ∙ ap (λ k. lay_products (n + below t + 1) ds ++ lay_products k ks) (omega arith))
+    ∙ sym (append_assoc (lay state n t) (lay_products (n + below t + 1) ds) (lay_products (n + (below t + 1 + below_products ds)) ks))
 
 pub joined_none : (ds : Products) → joined ds none ≡ ds
 joined_none none = refl
@@ -243,7 +243,7 @@ pub one_summed : {s m after : Store} {ds : Products} {xs ys : Summands} {left : 
 one_summed {s} {m} {after} {ds} {xs} {ys} {left} {k} {x} q w lt e f =
     let one = product k.0 k.1 none in
     let i = s.nodes.fill in
-    let next : Small m → m.nodes.fill ≡ i + below-products ds = λ h. exact i (below-products ds) m.nodes.fill q.counted.nodes h.nodes in
+    let next : Small m → m.nodes.fill ≡ i + below_products ds = λ h. exact i (below_products ds) m.nodes.fill q.counted.nodes h.nodes in
     record {
       counted =
           counted_as (omega (arith, below-joined ds one)) (omega (arith, terms-joined ds one)) (omega (arith, steps_joined ds one))
@@ -252,15 +252,15 @@ one_summed {s} {m} {after} {ds} {xs} {ys} {left} {k} {x} q w lt e f =
       few = omega arith;
       found = λ h.
           let b = small-before w.wrote.counted h in
-          let number : x.node ≡ i + below-products ds + below k.1 = omega (arith, w.wrote.number h, next b) in
+          let number : x.node ≡ i + below_products ds + below k.1 = omega (arith, w.wrote.number h, next b) in
           f ∙ ap (λ l. l ++ (x ∷ [])) (q.found b)
           ∙ ap (λ y. terms i ds ++ (y ∷ [])) (same-term w.coefficient number)
           ∙ sym (list_joined i ds one);
       laid = λ h.
           let b = small-before w.wrote.counted h in
           more_added s m after _ _ b (q.laid b) (w.wrote.laid h)
-          ∙ ap (λ j. added s (lay-products i ds ++ lay state j k.1)) (next b)
-          ∙ ap (λ l. added s (lay-products i ds ++ l)) (sym (append-nil (lay state (i + below-products ds) k.1)))
+          ∙ ap (λ j. added s (lay_products i ds ++ lay state j k.1)) (next b)
+          ∙ ap (λ l. added s (lay_products i ds ++ l)) (sym (append-nil (lay state (i + below_products ds) k.1)))
           ∙ ap (added s) (sym (lay-joined i ds one));
     }
   where
@@ -276,10 +276,10 @@ at_least_wrote {s} {m} {ks} {xs} {t} {n} {ns} {ts} q p =
     record { nodes = put-counted p.1; terms = put-counted p.0 ∙ ap (raised m.terms.fill) q.many; alternatives = grind arith } in
     record {
       counted = counted_as (omega arith) (omega arith) (omega arith) (counted-then q.counted c);
-      number = λ h. let b = small-before c h in omega (arith, p.1.place, exact s.nodes.fill (below-products ks) m.nodes.fill q.counted.nodes b.nodes);
+      number = λ h. let b = small-before c h in omega (arith, p.1.place, exact s.nodes.fill (below_products ks) m.nodes.fill q.counted.nodes b.nodes);
       laid = λ h.
           let b = small-before c h in
           more_added s m _ _ (sum t l ∷ []) b (q.laid b)
           (together (put p.1) (put p.0 ∙ ap (extended m.terms) (sym (append-nil l))) (unchanged m.alternatives b.alternatives))
-          ∙ ap (λ y. added s (lay-products s.nodes.fill ks ++ (sum t y ∷ []))) (q.found b);
+          ∙ ap (λ y. added s (lay_products s.nodes.fill ks ++ (sum t y ∷ []))) (q.found b);
     }

@@ -38,26 +38,26 @@ partly_none {room} {w} {s} {xs} {left} z e =
 
 module _ {room left : ℕ} {w0 w : Words} {s0 s : Store} {xs : Summands} (h : Partly room w0 s0 xs left w s) where
   -- what follows decides
-  further-follow : (stop : ℕ) (ws : List Item) → further room xs.count left h.done stop ws ≡ then (another xs.count stop ws) (λ o r. then (followed room xs.count left o stop r) (λ ks rest. Ok (joined h.done ks, rest)))
-  further-follow stop ws =
+  further_follow : (stop : ℕ) (ws : List Item) → further room xs.count left h.done stop ws ≡ then (another xs.count stop ws) (λ o r. then (followed room xs.count left o stop r) (λ ks rest. Ok (joined h.done ks, rest)))
+  further_follow stop ws =
       ap (λ o. then o (λ ks rest. Ok (joined h.done ks, rest))) (products_follow room xs.count left stop ws h.wrote.few)
       ∙ then-then (another xs.count stop ws) _ _
 
   -- the sum ends
-  pub partly-end : {v : Words} → Takes 1 (another xs.count) Itself w (Ok None) v → Takes 0 (products room 0 1000) (Summed s0 s) w0 (Ok xs) v
-  partly-end e =
-      h.whole s _ _ (eased (as_if further-follow
+  pub partly_end : {v : Words} → Takes 1 (another xs.count) Itself w (Ok None) v → Takes 0 (products room 0 1000) (Summed s0 s) w0 (Ok xs) v
+  partly_end e =
+      h.whole s _ _ (eased (as_if further_follow
       (and_so _ e (as_if (λ stop ws. ap (λ d. Ok (d, ws)) (joined_none h.done)) (nothing_read h.wrote)))))
 
   -- it is refused before the next product
-  pub partly-stopped : {v : Words} {after : Store} {e : GrammarFault} (r : Result Summands GrammarFault) → Takes 1 (another xs.count) Itself w (Err e) v → (is_err r ≡ true) × IsErrAnd r (λ y. y ≡ e) → Takes 0 (products room 0 1000) (Summed s0 after) w0 r v
-  partly-stopped {after} r e b = h.whole after r _ (eased (as_if further-follow (stopped _ r e b)))
+  pub partly_stopped : {v : Words} {after : Store} {e : GrammarFault} (r : Result Summands GrammarFault) → Takes 1 (another xs.count) Itself w (Err e) v → (is_err r ≡ true) × IsErrAnd r (λ y. y ≡ e) → Takes 0 (products room 0 1000) (Summed s0 after) w0 r v
+  partly_stopped {after} r e b = h.whole after r _ (eased (as_if further_follow (stopped _ r e b)))
 
   module _ {m : Words} {x : Lexeme} (a : Takes 1 (another xs.count) Itself w (Ok (Some x)) m) where
     -- it is refused in the next product
-    pub partly-refused : {v : Words} {after s1 : Store} {e : GrammarFault} (r : Result Summands GrammarFault) → Takes 1 (an_element room x left) (Factored left s s1) m (Err e) v → (is_err r ≡ true) × IsErrAnd r (λ y. y ≡ e) → Takes 0 (products room 0 1000) (Summed s0 after) w0 r v
-    partly-refused {after} r e b =
-        h.whole after r _ (eased (as_if further-follow (and_so _ a (as_if (λ stop ws. then-then (an_element room x left stop ws) _ _) (stopped _ r e b)))))
+    pub partly_refused : {v : Words} {after s1 : Store} {e : GrammarFault} (r : Result Summands GrammarFault) → Takes 1 (an_element room x left) (Factored left s s1) m (Err e) v → (is_err r ≡ true) × IsErrAnd r (λ y. y ≡ e) → Takes 0 (products room 0 1000) (Summed s0 after) w0 r v
+    partly_refused {after} r e b =
+        h.whole after r _ (eased (as_if further_follow (and_so _ a (as_if (λ stop ws. then-then (an_element room x left stop ws) _ _) (stopped _ r e b)))))
 
     -- one product more
     pub partly_more : {v : Words} {after : Store} {ys : Summands} {term : Term} {less : ℕ} → Takes 1 (an_element room x left) (Factored left s after) m (Ok term) v → ys.count ≡ xs.count + 1 → take ys.count ys.terms ≡ take xs.count xs.terms ++ (term ∷ []) → less ≡ left - term.coefficient → Partly room w0 s0 ys less v after
@@ -73,7 +73,7 @@ module _ {room left : ℕ} {w0 w : Words} {s0 s : Store} {xs : Summands} (h : Pa
           same = e.same ∙ a.same ∙ h.same;
           moved = omega arith;
           whole = λ fin r u g.
-              h.whole fin r u (eased (as_if further-follow (and_so _ a (as_if (λ stop ws. then-then (an_element room x left stop ws) _ _)
+              h.whole fin r u (eased (as_if further_follow (and_so _ a (as_if (λ stop ws. then-then (an_element room x left stop ws) _ _)
               (and-next _ e
               (as_if
               (λ stop ws.

@@ -17,7 +17,7 @@ use Rattle.formulas.specs.Readers.{Takes}
 use Rattle.formulas.specs.Stores.{Store, Small, Wrote, term-count, step_count}
 use Rattle.formulas.specs.Trees.{Tree, below, lay}
 use Rattle.formulas.specs.Whole.{holding, empty, Whole, Ends}
-use Rattle.formulas.proofs.Sizes.{length-node_table, length-lay, length-term-table, length-alternative-table}
+use Rattle.formulas.proofs.Sizes.{length-node_table, length-lay, length-term_table, length-alternative_table}
 use Rattle.formulas.proofs.Storing.{same-table, together}
 use Rattle.formulas.proofs.Pasted.{written-front}
 
@@ -58,12 +58,12 @@ takes-capped size f n e =
     ⊎_elim
     (λ h. let b = leb-true f 1048576 h in let same : f ≡ n = grind arith in ap (takes size) same)
     (λ h. let b = leb-false f 1048576 h in let large : 1048576 < n = grind arith in
-    ap (λ x. leb f size && x) h ∙ and-false (leb f size) ∙ sym (and-false (leb n size)) ∙ ap (λ x. leb n size && x) (sym (lt-leb n 1048576 large)))
+    ap (λ x. leb f size && x) h ∙ and_false (leb f size) ∙ sym (and_false (leb n size)) ∙ ap (λ x. leb n size && x) (sym (lt-leb n 1048576 large)))
     (cases_Bool (leb f 1048576))
   where
-    and-false : (b : Bool) → (b && false) ≡ false
-    and-false true = refl
-    and-false false = refl
+    and_false : (b : Bool) → (b && false) ≡ false
+    and_false true = refl
+    and_false false = refl
 
 module _ {t : Tree} {s after : Slots} {f : Fills} {n : ℕ} (w : Wrote state (holding empty s) (holding f after) t n) where
   fits-counted : (tables : Slots) → fits f tables ≡ fits (fills (lay state 0 t)) tables
@@ -71,9 +71,9 @@ module _ {t : Tree} {s after : Slots} {f : Fills} {n : ℕ} (w : Wrote state (ho
       ap (λ b. b && (takes (length tables.terms) f.terms && takes (length tables.alternatives) f.alternatives))
       (takes-capped (length tables.nodes) f.nodes (below t + 1) w.counted.nodes ∙ ap (takes (length tables.nodes)) (sym (length-lay state 0 t)))
       ∙ ap (λ b. takes (length tables.nodes) (length (lay state 0 t)) && (b && takes (length tables.alternatives) f.alternatives))
-      (takes-capped (length tables.terms) f.terms (term-count t) w.counted.terms ∙ ap (takes (length tables.terms)) (sym (length-term-table state 0 t)))
+      (takes-capped (length tables.terms) f.terms (term-count t) w.counted.terms ∙ ap (takes (length tables.terms)) (sym (length-term_table state 0 t)))
       ∙ ap (λ b. takes (length tables.nodes) (length (lay state 0 t)) && (takes (length tables.terms) (length (term_table (lay state 0 t))) && b))
-      (takes-capped (length tables.alternatives) f.alternatives (step_count t) w.counted.alternatives ∙ ap (takes (length tables.alternatives)) (sym (length-alternative-table state 0 t)))
+      (takes-capped (length tables.alternatives) f.alternatives (step_count t) w.counted.alternatives ∙ ap (takes (length tables.alternatives)) (sym (length-alternative_table state 0 t)))
 
   -- the tables take the tree
   module _ (fit : fits (fills (lay state 0 t)) s ≡ true) where
@@ -95,8 +95,8 @@ module _ {t : Tree} {s after : Slots} {f : Fills} {n : ℕ} (w : Wrote state (ho
         let b = within (length s.terms) (length (term_table (lay state 0 t))) parts.1 in
         let c = within (length s.alternatives) (length (alternative_table (lay state 0 t))) parts.2 in
         let ln = length-lay state 0 t in
-        let lt = length-term-table state 0 t in
-        let la = length-alternative-table state 0 t in
+        let lt = length-term_table state 0 t in
+        let la = length-alternative_table state 0 t in
         let x : f.nodes ≡ length (lay state 0 t) = exactly f.nodes (below t + 1) w.counted.nodes (omega arith) ∙ sym ln in
         let y : f.terms ≡ length (term_table (lay state 0 t)) = exactly f.terms (term-count t) w.counted.terms (omega arith) ∙ sym lt in
         let z : f.alternatives ≡ length (alternative_table (lay state 0 t)) = exactly f.alternatives (step_count t) w.counted.alternatives (omega arith) ∙ sym la in

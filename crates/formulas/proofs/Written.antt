@@ -3,7 +3,7 @@ use Rattle.std.proofs.Common.{◌≡◌, ℕ, ◌≤◌, Bool, true, false, List
 use Rattle.std.proofs.lemmas.List.{append_assoc, map-append}
 use Rattle.formulas.specs.declared.token.Token.{Token}
 use Rattle.formulas.specs.declared.token.Token.TheVariants.{Open, Close, True, False, And, Not, Dia, Here, Prob, AtLeast, Plus, Times, Numeral}
-use Rattle.formulas.specs.Trees.{Tree, leaf, conj, neg, dia, here, at_least, Products, none, product, leaf_token, summed, spell, spell-products, count}
+use Rattle.formulas.specs.Trees.{Tree, leaf, conj, neg, dia, here, at_least, Products, none, product, leaf_token, summed, spell, spell_products, count}
 
 -- words, each by its token if it has one
 abbrev pub Toks : Type 0
@@ -42,11 +42,11 @@ said_append : (k l : List Token) (v : Toks) → map Some (k ++ l) ++ v ≡ map S
 said_append k l v = rw (map-append, append_assoc)
 
 -- they are what the tree is spelled as
-summed_write : (ks : Products) (v : Toks) → map Some (summed ks (spell-products ks)) ++ v ≡ sum_open ks (map Some (spell-products ks) ++ sum-close ks v)
+summed_write : (ks : Products) (v : Toks) → map Some (summed ks (spell_products ks)) ++ v ≡ sum_open ks (map Some (spell_products ks) ++ sum-close ks v)
 summed_write none v = refl
 summed_write (product c s none) v = refl
 summed_write (product c s (product d r ks)) v =
-    ap (λ l. Some Open ∷ Some Plus ∷ l) (said_append (spell-products (product c s (product d r ks))) (Close ∷ []) v)
+    ap (λ l. Some Open ∷ Some Plus ∷ l) (said_append (spell_products (product c s (product d r ks))) (Close ∷ []) v)
 
 mutual
   pub write-spell : (x : Tree) (v : Toks) → map Some (spell x) ++ v ≡ write x v
@@ -57,13 +57,13 @@ mutual
   write-spell (here d) v = simp (said_append, write-spell d)
   write-spell (at_least ks t) v =
       ap (λ l. Some Open ∷ Some AtLeast ∷ l)
-      (said_append (summed ks (spell-products ks)) (Numeral t ∷ Close ∷ []) v
+      (said_append (summed ks (spell_products ks)) (Numeral t ∷ Close ∷ []) v
       ∙ summed_write ks (Some (Numeral t) ∷ Some Close ∷ v)
-      ∙ ap (λ l. sum_open ks l) (spell-write-products ks (sum-close ks (Some (Numeral t) ∷ Some Close ∷ v))))
+      ∙ ap (λ l. sum_open ks l) (spell-write_products ks (sum-close ks (Some (Numeral t) ∷ Some Close ∷ v))))
 
-  pub spell-write-products : (ks : Products) (v : Toks) → map Some (spell-products ks) ++ v ≡ write-products ks v
-  spell-write-products none v = refl
-  spell-write-products (product c s ks) v = simp (said_append, write-spell s, spell-write-products ks)
+  pub spell-write_products : (ks : Products) (v : Toks) → map Some (spell_products ks) ++ v ≡ write-products ks v
+  spell-write_products none v = refl
+  spell-write_products (product c s ks) v = simp (said_append, write-spell s, spell-write_products ks)
 
 -- what a tree behind `(` and a token is, where the words behind these are u and v is behind the tree
 abbrev pub Headed : Token → Tree → Toks → Toks → Type 0
@@ -161,13 +161,13 @@ SumShape ks [] v = ⊥
 SumShape ks (None ∷ u) v = ⊥
 SumShape ks (Some t ∷ u) v = SumStarted t ks u v
 
-own-sum_shape : (ks : Products) (v : Toks) → SumShape ks (write_sum ks v) v
-own-sum_shape none v = (refl, refl, refl)
-own-sum_shape (product c s none) v = (c, s, refl, refl)
-own-sum_shape (product c s (product d r ks)) v = (omega arith, refl)
+own_sum_shape : (ks : Products) (v : Toks) → SumShape ks (write_sum ks v) v
+own_sum_shape none v = (refl, refl, refl)
+own_sum_shape (product c s none) v = (c, s, refl, refl)
+own_sum_shape (product c s (product d r ks)) v = (omega arith, refl)
 
 pub sum-shape : (ks : Products) (o v : Toks) → o ≡ write_sum ks v → SumShape ks o v
-sum-shape ks o v e = subst (λ k. SumShape ks k v) (sym e) (own-sum_shape ks v)
+sum-shape ks o v e = subst (λ k. SumShape ks k v) (sym e) (own_sum_shape ks v)
 
 -- what products in front of a `)` are, by their first word
 abbrev pub ProductsStarted : Token → Products → Toks → Toks → Type 0
@@ -192,12 +192,12 @@ ProductsShape ks [] v = ⊥
 ProductsShape ks (None ∷ u) v = ⊥
 ProductsShape ks (Some t ∷ u) v = ProductsStarted t ks u v
 
-own-products_shape : (ks : Products) (v : Toks) → ProductsShape ks (write-products ks (Some Close ∷ v)) v
-own-products_shape none v = (refl, refl)
-own-products_shape (product c s ks) v = (c, s, ks, refl, refl)
+own_products_shape : (ks : Products) (v : Toks) → ProductsShape ks (write-products ks (Some Close ∷ v)) v
+own_products_shape none v = (refl, refl)
+own_products_shape (product c s ks) v = (c, s, ks, refl, refl)
 
 pub products-shape : (ks : Products) (o v : Toks) → o ≡ write-products ks (Some Close ∷ v) → ProductsShape ks o v
-products-shape ks o v e = subst (λ k. ProductsShape ks k v) (sym e) (own-products_shape ks v)
+products-shape ks o v e = subst (λ k. ProductsShape ks k v) (sym e) (own_products_shape ks v)
 
 -- the tree x, and what is behind it, can be told from the words
 abbrev Told : Tree → Type 0

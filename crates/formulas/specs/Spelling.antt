@@ -12,7 +12,7 @@ use Rattle.formulas.specs.Reading.{reading}
 use Rattle.formulas.specs.Tables.{Slots, fits, laid}
 use Rattle.formulas.specs.Stands.{stands, formula_in}
 use Rattle.formulas.specs.Tokens.{token_of}
-use Rattle.formulas.specs.Trees.{Tree, leaf, conj, neg, dia, here, at_least, Products, none, product, spell, Of-sort, In-range, count, coefficients, depth, below, lay}
+use Rattle.formulas.specs.Trees.{Tree, leaf, conj, neg, dia, here, at_least, Products, none, product, spell, OfSort, InRange, count, coefficients, depth, below, lay}
 use Rattle.formulas.specs.Words.{onward, part}
 
 -- words, each by its token if it has one
@@ -65,8 +65,8 @@ parts text = map (λ w. part text w.0 w.1) (onward text 0)
 
 -- a state term within the limits
 pub record Allowed (t : Tree) : Type 0 where
-  pub sorted : Of-sort state t
-  pub ranged : In-range t
+  pub sorted : OfSort state t
+  pub ranged : InRange t
   pub shallow : depth t ≤ 64
 
 -- a text is accepted, and read as the tree t, exactly when it spells t, and t is allowed and fits the tables
@@ -77,31 +77,31 @@ pub record Accepts (text : List ℕ) (s : Slots) (t : Tree) : Type 0 where
 
 -- its numbers are in their ranges
 abbrev mutual
-  pub Numbers-fit : Tree → Type 0
-  Numbers-fit (leaf b) = Unit {0}
-  Numbers-fit (conj x y) = Numbers-fit x × Numbers-fit y
-  Numbers-fit (neg x) = Numbers-fit x
-  Numbers-fit (dia a d) = (a ≤ 31) × Numbers-fit d
-  Numbers-fit (here d) = Numbers-fit d
-  Numbers-fit (at_least ks t) = Coefficients-fit ks × (coefficients ks ≤ 1000) × (t ≤ 1000)
+  pub NumbersFit : Tree → Type 0
+  NumbersFit (leaf b) = Unit {0}
+  NumbersFit (conj x y) = NumbersFit x × NumbersFit y
+  NumbersFit (neg x) = NumbersFit x
+  NumbersFit (dia a d) = (a ≤ 31) × NumbersFit d
+  NumbersFit (here d) = NumbersFit d
+  NumbersFit (at_least ks t) = CoefficientsFit ks × (coefficients ks ≤ 1000) × (t ≤ 1000)
 
-  pub Coefficients-fit : Products → Type 0
-  Coefficients-fit none = Unit {0}
-  Coefficients-fit (product c s ks) = (1 ≤ c) × Numbers-fit s × Coefficients-fit ks
+  pub CoefficientsFit : Products → Type 0
+  CoefficientsFit none = Unit {0}
+  CoefficientsFit (product c s ks) = (1 ≤ c) × NumbersFit s × CoefficientsFit ks
 
 -- none of its sums has more than eight terms
 abbrev mutual
-  pub Sums-short : Tree → Type 0
-  Sums-short (leaf b) = Unit {0}
-  Sums-short (conj x y) = Sums-short x × Sums-short y
-  Sums-short (neg x) = Sums-short x
-  Sums-short (dia a d) = Sums-short d
-  Sums-short (here d) = Sums-short d
-  Sums-short (at_least ks t) = Parts-short ks × (count ks ≤ 8)
+  pub SumsShort : Tree → Type 0
+  SumsShort (leaf b) = Unit {0}
+  SumsShort (conj x y) = SumsShort x × SumsShort y
+  SumsShort (neg x) = SumsShort x
+  SumsShort (dia a d) = SumsShort d
+  SumsShort (here d) = SumsShort d
+  SumsShort (at_least ks t) = PartsShort ks × (count ks ≤ 8)
 
-  pub Parts-short : Products → Type 0
-  Parts-short none = Unit {0}
-  Parts-short (product c s ks) = Sums-short s × Parts-short ks
+  pub PartsShort : Products → Type 0
+  PartsShort none = Unit {0}
+  PartsShort (product c s ks) = SumsShort s × PartsShort ks
 
 -- the words begin the spelling of some tree that P holds of
 abbrev pub Begin : (Tree → Type 0) → List (Option Token) → Type 0
@@ -109,20 +109,20 @@ Begin P ws = (t : Tree) × (more : List (Option Token)) × P t × (map Some (spe
 
 -- of some state term, whatever its numbers, sums and depth
 abbrev pub BeginTerm : List (Option Token) → Type 0
-BeginTerm ws = Begin (λ t. Of-sort state t) ws
+BeginTerm ws = Begin (λ t. OfSort state t) ws
 
 -- of one whose numbers are in their ranges
 abbrev pub BeginFit : List (Option Token) → Type 0
-BeginFit ws = Begin (λ t. Of-sort state t × Numbers-fit t) ws
+BeginFit ws = Begin (λ t. OfSort state t × NumbersFit t) ws
 
 -- of one whose sums have at most eight terms, and in which at most 64 parentheses are open at a time
 abbrev pub BeginSmall : List (Option Token) → Type 0
-BeginSmall ws = Begin (λ t. Of-sort state t × Sums-short t × (depth t ≤ 64)) ws
+BeginSmall ws = Begin (λ t. OfSort state t × SumsShort t × (depth t ≤ 64)) ws
 
 -- what is wrong behind the words ws, where back are the words from there on and the text ends at stop
 abbrev pub Wrong : ℕ → List (Option Token) → List Item → GrammarFault → Type 0
 -- the text ends, and the words are no state term yet
-Wrong stop ws [] f = (f ≡ Misplaced stop) × ((t : Tree) → Of-sort state t → map Some (spell t) ≢ ws)
+Wrong stop ws [] f = (f ≡ Misplaced stop) × ((t : Tree) → OfSort state t → map Some (spell t) ≢ ws)
 -- the next word is none of the language
 Wrong stop ws (i ∷ back) (Word g) = (i.0 ≡ g.place) × (i.1 ≡ None)
 -- no state term goes on with the next word
@@ -148,7 +148,7 @@ pub record ReadingLaw : Type 0 where
   -- each token has one word, and a text spells a tree exactly when its words are those of the tree's tokens
   pub worded : (t : Token) → Small t → token_of (word t) ≡ Some t
   pub wording : (w : List ℕ) (t : Token) → Small t → token_of w ≡ Some t → w ≡ word t
-  pub spells_bytes : (text : List ℕ) (t : Tree) → In-range t → Spells text t ↔ (parts text ≡ map word (spell t))
+  pub spells_bytes : (text : List ℕ) (t : Tree) → InRange t → Spells text t ↔ (parts text ≡ map word (spell t))
   pub refused : (text : List ℕ) (s : Slots) (f : GrammarFault) → reading text s ≡ Err (Text f) → Refusal text f
   -- the tables are too short for a text only if nothing else is wrong with it
   pub crowded : (text : List ℕ) (s : Slots) → reading text s ≡ Err Tables

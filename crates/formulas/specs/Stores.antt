@@ -10,7 +10,7 @@ use Rattle.formulas.specs.declared.summands.Summands.{Summands}
 use Rattle.formulas.specs.Append.{capped, raised, written, Table, table, Puts}
 use Rattle.formulas.specs.Layout.{run, node_table, term_table, alternative_table}
 use Rattle.formulas.specs.Lines.{Sort, state, Line}
-use Rattle.formulas.specs.Trees.{Tree, leaf, conj, neg, dia, here, at_least, Products, none, product, below, below-products, count, terms, lay, lay-products}
+use Rattle.formulas.specs.Trees.{Tree, leaf, conj, neg, dia, here, at_least, Products, none, product, below, below_products, count, terms, lay, lay_products}
 
 pub record Store : Type 0 where
   pub nodes : Table Node
@@ -46,11 +46,11 @@ abbrev mutual
   term-count (neg x) = term-count x
   term-count (dia a d) = term-count d
   term-count (here d) = term-count d
-  term-count (at_least ks t) = term-counts ks + count ks
+  term-count (at_least ks t) = term_counts ks + count ks
 
-  pub term-counts : Products → ℕ
-  term-counts none = 0
-  term-counts (product c s ks) = term-count s + term-counts ks
+  pub term_counts : Products → ℕ
+  term_counts none = 0
+  term_counts (product c s ks) = term-count s + term_counts ks
 
 -- the alternatives of a tree's steps
 abbrev mutual
@@ -86,11 +86,11 @@ pub record Factored (left : ℕ) (s after : Store) (k : ℕ × Tree) (x : Term) 
 
 -- the products are written, but for their terms, which xs has
 pub record Summed (s after : Store) (ks : Products) (xs : Summands) : Type 0 where
-  pub counted : Counted s (below-products ks) (term-counts ks) (step_counts ks) after
+  pub counted : Counted s (below_products ks) (term_counts ks) (step_counts ks) after
   pub many : length (take xs.count xs.terms) ≡ count ks
   pub few : xs.count ≤ 8
   pub found : Small after → take xs.count xs.terms ≡ terms s.nodes.fill ks
-  pub laid : Small after → after ≡ added s (lay-products s.nodes.fill ks)
+  pub laid : Small after → after ≡ added s (lay_products s.nodes.fill ks)
 
 -- a step with one move alternative, part, is put
 abbrev pub PutsMove : Table Node → Table ℕ → ℕ → ℕ → ℕ → Table Node → Table ℕ → Type 0

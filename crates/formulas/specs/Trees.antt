@@ -41,28 +41,28 @@ abbrev mutual
   spell (neg x) = Open ∷ Not ∷ (spell x ++ (Close ∷ []))
   spell (dia a d) = Open ∷ Dia ∷ Numeral a ∷ (spell d ++ (Close ∷ []))
   spell (here d) = Open ∷ Here ∷ (spell d ++ (Close ∷ []))
-  spell (at_least ks t) = Open ∷ AtLeast ∷ (summed ks (spell-products ks) ++ (Numeral t ∷ Close ∷ []))
+  spell (at_least ks t) = Open ∷ AtLeast ∷ (summed ks (spell_products ks) ++ (Numeral t ∷ Close ∷ []))
 
-  pub spell-products : Products → List Token
-  spell-products none = []
-  spell-products (product c s ks) = Open ∷ Times ∷ Numeral c ∷ Open ∷ Prob ∷ (spell s ++ (Close ∷ Close ∷ spell-products ks))
+  pub spell_products : Products → List Token
+  spell_products none = []
+  spell_products (product c s ks) = Open ∷ Times ∷ Numeral c ∷ Open ∷ Prob ∷ (spell s ++ (Close ∷ Close ∷ spell_products ks))
 
 -- the tree is a term of the sort
 abbrev mutual
-  pub Of-sort : Sort → Tree → Type 0
-  Of-sort σ (leaf b) = Unit {0}
-  Of-sort σ (conj x y) = Of-sort σ x × Of-sort σ y
-  Of-sort σ (neg x) = Of-sort σ x
-  Of-sort state (dia a d) = Of-sort dist d
-  Of-sort dist (dia a d) = ⊥
-  Of-sort state (here d) = Of-sort dist d
-  Of-sort dist (here d) = ⊥
-  Of-sort state (at_least ks t) = ⊥
-  Of-sort dist (at_least ks t) = Of-products ks
+  pub OfSort : Sort → Tree → Type 0
+  OfSort σ (leaf b) = Unit {0}
+  OfSort σ (conj x y) = OfSort σ x × OfSort σ y
+  OfSort σ (neg x) = OfSort σ x
+  OfSort state (dia a d) = OfSort dist d
+  OfSort dist (dia a d) = ⊥
+  OfSort state (here d) = OfSort dist d
+  OfSort dist (here d) = ⊥
+  OfSort state (at_least ks t) = ⊥
+  OfSort dist (at_least ks t) = OfProducts ks
 
-  pub Of-products : Products → Type 0
-  Of-products none = Unit {0}
-  Of-products (product c s ks) = Of-sort state s × Of-products ks
+  pub OfProducts : Products → Type 0
+  OfProducts none = Unit {0}
+  OfProducts (product c s ks) = OfSort state s × OfProducts ks
 
 abbrev pub count : Products → ℕ
 count none = 0
@@ -74,17 +74,17 @@ coefficients (product c s ks) = c + coefficients ks
 
 -- its numbers are in their ranges, and no sum has more than eight terms
 abbrev mutual
-  pub In-range : Tree → Type 0
-  In-range (leaf b) = Unit {0}
-  In-range (conj x y) = In-range x × In-range y
-  In-range (neg x) = In-range x
-  In-range (dia a d) = (a ≤ 31) × In-range d
-  In-range (here d) = In-range d
-  In-range (at_least ks t) = In-ranges ks × (count ks ≤ 8) × (coefficients ks ≤ 1000) × (t ≤ 1000)
+  pub InRange : Tree → Type 0
+  InRange (leaf b) = Unit {0}
+  InRange (conj x y) = InRange x × InRange y
+  InRange (neg x) = InRange x
+  InRange (dia a d) = (a ≤ 31) × InRange d
+  InRange (here d) = InRange d
+  InRange (at_least ks t) = InRanges ks × (count ks ≤ 8) × (coefficients ks ≤ 1000) × (t ≤ 1000)
 
-  pub In-ranges : Products → Type 0
-  In-ranges none = Unit {0}
-  In-ranges (product c s ks) = (1 ≤ c) × In-range s × In-ranges ks
+  pub InRanges : Products → Type 0
+  InRanges none = Unit {0}
+  InRanges (product c s ks) = (1 ≤ c) × InRange s × InRanges ks
 
 abbrev pub sum_depth : Products → ℕ → ℕ
 sum_depth none d = 0
@@ -99,11 +99,11 @@ abbrev mutual
   depth (neg x) = suc (depth x)
   depth (dia a d) = suc (depth d)
   depth (here d) = suc (depth d)
-  depth (at_least ks t) = suc (sum_depth ks (products-depth ks))
+  depth (at_least ks t) = suc (sum_depth ks (products_depth ks))
 
-  pub products-depth : Products → ℕ
-  products-depth none = 0
-  products-depth (product c s ks) = max (suc (suc (depth s))) (products-depth ks)
+  pub products_depth : Products → ℕ
+  products_depth none = 0
+  products_depth (product c s ks) = max (suc (suc (depth s))) (products_depth ks)
 
 -- the nodes of a tree but its own
 abbrev mutual
@@ -113,11 +113,11 @@ abbrev mutual
   below (neg x) = below x + 1
   below (dia a d) = below d + 1
   below (here d) = below d + 1
-  below (at_least ks t) = below-products ks
+  below (at_least ks t) = below_products ks
 
-  pub below-products : Products → ℕ
-  below-products none = 0
-  below-products (product c s ks) = below s + 1 + below-products ks
+  pub below_products : Products → ℕ
+  below_products none = 0
+  below_products (product c s ks) = below s + 1 + below_products ks
 
 -- the terms of a sum whose first node is number n
 abbrev pub terms : ℕ → Products → List Term
@@ -132,11 +132,11 @@ abbrev mutual
   lay σ n (neg x) = lay σ n x ++ (non σ (n + below x) ∷ [])
   lay σ n (dia a d) = lay dist n d ++ (step a ((n + below d) ∷ []) [] ∷ [])
   lay σ n (here d) = lay dist n d ++ (step 0 [] ((n + below d) ∷ []) ∷ [])
-  lay σ n (at_least ks t) = lay-products n ks ++ (sum t (terms n ks) ∷ [])
+  lay σ n (at_least ks t) = lay_products n ks ++ (sum t (terms n ks) ∷ [])
 
-  pub lay-products : ℕ → Products → List Line
-  lay-products n none = []
-  lay-products n (product c s ks) = lay state n s ++ lay-products (n + below s + 1) ks
+  pub lay_products : ℕ → Products → List Line
+  lay_products n none = []
+  lay_products n (product c s ks) = lay state n s ++ lay_products (n + below s + 1) ks
 
 -- the formula of a state term
 abbrev pub formula_of : Tree → Formula

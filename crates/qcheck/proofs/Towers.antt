@@ -34,11 +34,11 @@ either_assoc None b c = refl
 
 -- and is the first to be refused
 fault_last : (A : ℕ → Bool) (Ms : List Meaning) (M S : Meaning) → pile_fault A (Ms ++ (M ∷ [])) S ≡ either_fault (refusal M S) (pile_fault A Ms (pile A M S))
-fault_last A [] M S = either-none (refusal M S)
+fault_last A [] M S = either_none (refusal M S)
   where
-    either-none : (o : Option Fault) → o ≡ either_fault o None
-    either-none (Some f) = refl
-    either-none None = refl
+    either_none : (o : Option Fault) → o ≡ either_fault o None
+    either_none (Some f) = refl
+    either_none None = refl
 fault_last A (N ∷ Ms) M S =
     ap₂ either_fault (fault_last A Ms M S) (ap (refusal N) (stack-last A Ms M S))
     ∙ either_assoc (refusal M S) (pile_fault A Ms (pile A M S)) (refusal N (stack A Ms (pile A M S)))
@@ -57,9 +57,9 @@ module _ {Z : Type 0} (xs ys : List (Rc AnySystem Z)) (u : Rc AnySystem Z) (A : 
       ∙ ap₂ (λ f M. unless f (answer_on M c t)) (fault_last (has c.shared) (meanings ys) upper S) (stack-last (has c.shared) (meanings ys) upper S)
 
   -- the last system was piled over S into one that means P
-  answer-piled : (P : Meaning) (a : Answer) → refusal (any_meaning (rc_value u)) S ≡ None → P ≡ pile (has A) (any_meaning (rc_value u)) S → a ≡ answer_over (meanings ys) P c t → a ≡ answer_over (meanings xs) S c t
+  answer_piled : (P : Meaning) (a : Answer) → refusal (any_meaning (rc_value u)) S ≡ None → P ≡ pile (has A) (any_meaning (rc_value u)) S → a ≡ answer_over (meanings ys) P c t → a ≡ answer_over (meanings xs) S c t
   unfolding upper
-  answer-piled P a free piled h =
+  answer_piled P a free piled h =
       h
       ∙ ap (λ M. answer_over (meanings ys) M c t) (piled ∙ ap (λ B. pile (has B) (any_meaning (rc_value u)) S) shared)
       ∙ ap (λ o. unless (either_fault o (pile_fault (has c.shared) (meanings ys) (pile (has c.shared) upper S))) (answer_on (stack (has c.shared) (meanings ys) (pile (has c.shared) upper S)) c t)) (sym free)
@@ -73,9 +73,9 @@ module _ {Z : Type 0} (xs ys : List (Rc AnySystem Z)) (u : Rc AnySystem Z) (A : 
       ∙ ap (λ o. unless (either_fault o (pile_fault (has c.shared) (meanings ys) (pile (has c.shared) upper S))) (answer_on (stack (has c.shared) (meanings ys) (pile (has c.shared) upper S)) c t)) (sym fault)
       ∙ sym answer-apart
 
-  pub told-piled : {E : Type 0} (P : Meaning) (r : Result Answer E) → refusal (any_meaning (rc_value u)) S ≡ None → P ≡ pile (has A) (any_meaning (rc_value u)) S → IfOk r (λ a. a ≡ answer_over (meanings ys) P c t) → IfOk r (λ a. a ≡ answer_over (meanings xs) S c t)
-  told-piled P (Ok a) free piled h = answer-piled P a free piled h
-  told-piled P (Err e) free piled h = h
+  pub told_piled : {E : Type 0} (P : Meaning) (r : Result Answer E) → refusal (any_meaning (rc_value u)) S ≡ None → P ≡ pile (has A) (any_meaning (rc_value u)) S → IfOk r (λ a. a ≡ answer_over (meanings ys) P c t) → IfOk r (λ a. a ≡ answer_over (meanings xs) S c t)
+  told_piled P (Ok a) free piled h = answer_piled P a free piled h
+  told_piled P (Err e) free piled h = h
 
 -- no system is left to be piled
 pub told-alone : {Z E : Type 0} (xs : List (Rc AnySystem Z)) (S : Meaning) (c : Claim) (t : Tables) (r : Result Answer E) → length xs ≤ 0 → IfOk r (λ a. a ≡ answer_on S c t) → IfOk r (λ a. a ≡ answer_over (meanings xs) S c t)

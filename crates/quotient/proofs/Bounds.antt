@@ -10,7 +10,7 @@ use Rattle.formulas.specs.Lines.{Line, constant, both, non, step, sum, sort}
 use Rattle.quotient.specs.Quotient.{rows, row, width, new_step, new_term, new_line, new_lines}
 use Rattle.quotient.specs.Theorems.{BoundsLaw}
 use Rattle.formulas.specs.WellFormed.{Bounded}
-use Rattle.quotient.proofs.Lists.{sumBy-eq, sumBy-mul, sumBy-cross, all_cross, all_counting}
+use Rattle.quotient.proofs.Lists.{sum_by_eq, sum_by_mul, sum_by_cross, all_cross, all_counting}
 use Rattle.quotient.proofs.Places.{rows_all}
 use Rattle.quotient.proofs.Rules.{GoodIn, point-good}
 
@@ -18,16 +18,16 @@ module _ (A : ℕ → Bool) (R : Meaning) (hR : Ruled R) (ls : List Line) (m : �
   row-good : (r : ℕ) → r < length (rows R) → GoodIn R (row R r)
   row-good = rows_all R (GoodIn R) (point-good R hR) hR.each
 
-  coefficients-scale : (ks : List Term) (mv : Move) → sum_by (λ k. k.coefficient) (cross (new_term R ls) ks mv) ≡ sum_by (λ k. k.coefficient) ks * total mv
-  coefficients-scale ks mv =
-      sumBy-cross (new_term R ls) (λ k. k.coefficient) ks mv
-      ∙ sumBy-eq ks (λ k. sumBy-mul k.coefficient (λ t. t.weight) mv ∙ mul_comm k.coefficient (total mv))
-      ∙ sumBy-mul (total mv) (λ k. k.coefficient) ks
+  coefficients_scale : (ks : List Term) (mv : Move) → sum_by (λ k. k.coefficient) (cross (new_term R ls) ks mv) ≡ sum_by (λ k. k.coefficient) ks * total mv
+  coefficients_scale ks mv =
+      sum_by_cross (new_term R ls) (λ k. k.coefficient) ks mv
+      ∙ sum_by_eq ks (λ k. sum_by_mul k.coefficient (λ t. t.weight) mv ∙ mul_comm k.coefficient (total mv))
+      ∙ sum_by_mul (total mv) (λ k. k.coefficient) ks
       ∙ mul_comm (total mv) (sum_by (λ k. k.coefficient) ks)
 
   -- what keeps to its bound keeps to it times the mass
-  scale-le : (n : ℕ) → n ≤ 1000 * m → n * R.mass ≤ 1000 * (m * R.mass)
-  scale-le n h = subst (λ (b : ℕ). n * R.mass ≤ b) (mul_assoc 1000 m R.mass) (mul-le-mul_right R.mass h)
+  scale_le : (n : ℕ) → n ≤ 1000 * m → n * R.mass ≤ 1000 * (m * R.mass)
+  scale_le n h = subst (λ (b : ℕ). n * R.mass ≤ b) (mul_assoc 1000 m R.mass) (mul-le-mul_right R.mass h)
 
   new-bounded : (l : Line) → Bounded m l → (p : ℕ) → p < width R (sort l) → Bounded (m * R.mass) (new_line A R ls l p)
   unfolding new_line
@@ -38,8 +38,8 @@ module _ (A : ℕ → Bool) (R : Meaning) (hR : Ruled R) (ls : List Line) (m : �
   new-bounded (sum t ks) h p lp =
       let good = row-good p lp in (
         all_cross (new_term R ls) (λ k. 1 ≤ k.coefficient) ks (row R p) h.0 good.aimed (λ k u hk hu. one-le-mul hk hu.heavy),
-        subst (λ (n : ℕ). n ≤ 1000 * (m * R.mass)) (sym (coefficients-scale ks (row R p) ∙ ap (λ (n : ℕ). sum_by (λ k. k.coefficient) ks * n) good.whole)) (scale-le (sum_by (λ k. k.coefficient) ks) h.1),
-        scale-le t h.2,
+        subst (λ (n : ℕ). n ≤ 1000 * (m * R.mass)) (sym (coefficients_scale ks (row R p) ∙ ap (λ (n : ℕ). sum_by (λ k. k.coefficient) ks * n) good.whole)) (scale_le (sum_by (λ k. k.coefficient) ks) h.1),
+        scale_le t h.2,
       )
 
   lines-bounded : (xs : List Line) → AllByRecursion (Bounded m) xs → AllByRecursion (Bounded (m * R.mass)) (flat_map (new_lines A R ls) xs)

@@ -17,14 +17,14 @@ pub joined-counting_more : {X : Type 0} (f : ℕ → List X) (n : ℕ) → flat_
 joined-counting_more f n = ap (flat_map f) (counting_more n) ∙ sym (flat_map_more f [] (range_with_len 0 n) n)
 
 module _ {X Y Z : Type 0} (f : X → Y → Z) where
-  cross-push : (xs : List X) (x : X) (ys : List Y) → cross f (xs ++ (x ∷ [])) ys ≡ cross f xs ys ++ map (f x) ys
+  cross_push : (xs : List X) (x : X) (ys : List Y) → cross f (xs ++ (x ∷ [])) ys ≡ cross f xs ys ++ map (f x) ys
   unfolding cross
-  cross-push [] x ys = append-nil (map (f x) ys)
-  cross-push (z ∷ xs) x ys = ap (λ l. map (f z) ys ++ l) (cross-push xs x ys) ∙ sym (append_assoc (map (f z) ys) (cross f xs ys) (map (f x) ys))
+  cross_push [] x ys = append-nil (map (f x) ys)
+  cross_push (z ∷ xs) x ys = ap (λ l. map (f z) ys ++ l) (cross_push xs x ys) ∙ sym (append_assoc (map (f z) ys) (cross f xs ys) (map (f x) ys))
 
   pub cross-none : (ys : List Y) → cross f [] ys ≡ []
   unfolding cross
   cross-none ys = refl
 
   pub cross-more : (xs : List X) (i : ℕ) (d : X) (ys : List Y) → i < length xs → cross f (take (i + 1) xs) ys ≡ cross f (take i xs) ys ++ map (f (get_or xs i d)) ys
-  cross-more xs i d ys h = ap (λ l. cross f l ys) (take_more xs i d h) ∙ cross-push (take i xs) (get_or xs i d) ys
+  cross-more xs i d ys h = ap (λ l. cross f l ys) (take_more xs i d h) ∙ cross_push (take i xs) (get_or xs i d) ys

@@ -26,7 +26,7 @@ use Rattle.quotient.specs.declared.plan.Plan.{Plan}
 use Rattle.quotient.specs.Layings.{appended, stored, lay}
 use Rattle.quotient.specs.Quotient.{moves_of, rows, row, first_row, move_rows, width, place, new_step, new_term, new_line, new_lines}
 use Rattle.quotient.specs.Plans.{node_width, width_before, plan_nodes, plan_lines, place_in, Planned, moved, Fit, LightTerm, LightTarget, no_target, PlainState, PlainDist, Plain, node_line, node_lines, plan_quotient, sum_at}
-use Rattle.quotient.proofs.Lists.{looked-up}
+use Rattle.quotient.proofs.Lists.{looked_up}
 use Rattle.quotient.proofs.Places.{rows-within}
 use Rattle.quotient.proofs.Rules.{GoodIn}
 
@@ -107,14 +107,14 @@ module _ (R : Meaning) (n r : ℕ) (en : n ≡ R.states) (er : r ≡ length (row
   width_is (Dist (dn.TheVariants.Not i)) = er
   width_is (Dist (dn.TheVariants.Sum t k)) = er
 
-  pub widths-are : (ns : List Node) → sum_by (node_width n r) ns ≡ sum_by (λ l. width R (sort l)) (lines ns ts alts)
-  widths-are [] = refl
-  widths-are (y ∷ ns) =
-      sum_by-cons (node_width n r) y ns ∙ ap₂ ◌+◌ (width_is y) (widths-are ns) ∙ sym (sum_by-cons (λ l. width R (sort l)) (line ts alts y) (lines ns ts alts))
+  pub widths_are : (ns : List Node) → sum_by (node_width n r) ns ≡ sum_by (λ l. width R (sort l)) (lines ns ts alts)
+  widths_are [] = refl
+  widths_are (y ∷ ns) =
+      sum_by-cons (node_width n r) y ns ∙ ap₂ ◌+◌ (width_is y) (widths_are ns) ∙ sym (sum_by-cons (λ l. width R (sort l)) (line ts alts y) (lines ns ts alts))
 
   pub place_at : (ns : List Node) (d p : ℕ) → width_before n r ns d + p ≡ place R (lines ns ts alts) d p
   unfolding place
-  place_at ns d p = ap (λ k. k + p) (widths-are (take d ns) ∙ ap (sum_by (λ l. width R (sort l))) (sym (take-map (line ts alts) d ns)))
+  place_at ns d p = ap (λ k. k + p) (widths_are (take d ns) ∙ ap (sum_by (λ l. width R (sort l))) (sym (take-map (line ts alts) d ns)))
 
 module _ (R : Meaning) (x : Plan) (planned : Planned R x) where
   abbrev ts : List Term
@@ -126,21 +126,21 @@ module _ (R : Meaning) (x : Plan) (planned : Planned R x) where
   pub place_is : (d p : ℕ) → place_in x d p ≡ place R (plan_lines x) d p
   place_is d p = place_at R x.states x.rows planned.states planned.rows ts alts (plan_nodes x) d p
 
-  pub places-are : place_in x ≡ place R (plan_lines x)
-  places-are = fun_ext (λ d. fun_ext (λ p. place_is d p))
+  pub places_are : place_in x ≡ place R (plan_lines x)
+  places_are = fun_ext (λ d. fun_ext (λ p. place_is d p))
 
   -- a node that is neither a step nor a sum
   pub lay-plain : (n : Node) (p : ℕ) → Plain (length (plan_nodes x)) n → (ns ms : Table Node) → ms ≡ appended ns (moved (λ d. place_in x d p) n) → (us : Table Term) (ats : Table ℕ) → stored ms us ats ≡ lay (stored ns us ats) (node_line R x n p)
   unfolding new_line
   lay-plain (State sn.TheVariants.Yes) p h ns ms e us ats = ap (λ m. stored m us ats) e
   lay-plain (State sn.TheVariants.No) p h ns ms e us ats = ap (λ m. stored m us ats) e
-  lay-plain (State (sn.TheVariants.And i j)) p h ns ms e us ats = ap (λ m. stored m us ats) e ∙ ap (λ (at : ℕ → ℕ → ℕ). stored (appended ns (State (sn.TheVariants.And (at i p) (at j p)))) us ats) places-are
-  lay-plain (State (sn.TheVariants.Not i)) p h ns ms e us ats = ap (λ m. stored m us ats) e ∙ ap (λ (at : ℕ → ℕ → ℕ). stored (appended ns (State (sn.TheVariants.Not (at i p)))) us ats) places-are
+  lay-plain (State (sn.TheVariants.And i j)) p h ns ms e us ats = ap (λ m. stored m us ats) e ∙ ap (λ (at : ℕ → ℕ → ℕ). stored (appended ns (State (sn.TheVariants.And (at i p) (at j p)))) us ats) places_are
+  lay-plain (State (sn.TheVariants.Not i)) p h ns ms e us ats = ap (λ m. stored m us ats) e ∙ ap (λ (at : ℕ → ℕ → ℕ). stored (appended ns (State (sn.TheVariants.Not (at i p)))) us ats) places_are
   lay-plain (State (sn.TheVariants.Step a r s)) p h ns ms e us ats = absurd h
   lay-plain (Dist dn.TheVariants.Yes) p h ns ms e us ats = ap (λ m. stored m us ats) e
   lay-plain (Dist dn.TheVariants.No) p h ns ms e us ats = ap (λ m. stored m us ats) e
-  lay-plain (Dist (dn.TheVariants.And i j)) p h ns ms e us ats = ap (λ m. stored m us ats) e ∙ ap (λ (at : ℕ → ℕ → ℕ). stored (appended ns (Dist (dn.TheVariants.And (at i p) (at j p)))) us ats) places-are
-  lay-plain (Dist (dn.TheVariants.Not i)) p h ns ms e us ats = ap (λ m. stored m us ats) e ∙ ap (λ (at : ℕ → ℕ → ℕ). stored (appended ns (Dist (dn.TheVariants.Not (at i p)))) us ats) places-are
+  lay-plain (Dist (dn.TheVariants.And i j)) p h ns ms e us ats = ap (λ m. stored m us ats) e ∙ ap (λ (at : ℕ → ℕ → ℕ). stored (appended ns (Dist (dn.TheVariants.And (at i p) (at j p)))) us ats) places_are
+  lay-plain (Dist (dn.TheVariants.Not i)) p h ns ms e us ats = ap (λ m. stored m us ats) e ∙ ap (λ (at : ℕ → ℕ → ℕ). stored (appended ns (Dist (dn.TheVariants.Not (at i p)))) us ats) places_are
   lay-plain (Dist (dn.TheVariants.Sum t r)) p h ns ms e us ats = absurd h
 
   -- the rows of the moves of p on a, from the first that the plan tells
@@ -165,7 +165,7 @@ module _ (R : Meaning) (x : Plan) (planned : Planned R x) where
   step_is a p first count ms hs shared e f g =
       new_is (has x.shared a)
       ∙ ap (λ b. line_at b (place R (plan_lines x)) (move_rows R p a)) (sym e)
-      ∙ ap₂ (λ at rs. line_at shared at rs) (sym places-are) (sym g ∙ ap (range_with_len first) (sym f))
+      ∙ ap₂ (λ at rs. line_at shared at rs) (sym places_are) (sym g ∙ ap (range_with_len first) (sym f))
     where
       line_at : Bool → (ℕ → ℕ → ℕ) → List ℕ → Line
       line_at b at rs = step a (cond b (cross at (entries alts ms) rs) (map (λ d. at d p) (entries alts ms))) (cond b (map (λ d. at d p) (entries alts hs)) (cross at (entries alts ms) rs ++ map (λ d. at d p) (entries alts hs)))
@@ -182,17 +182,17 @@ module _ (R : Meaning) (x : Plan) (planned : Planned R x) (t : ℕ) (r : Run) wh
   sum_is : (mv : Move) → sum (t * R.mass) (cross (new_term R (plan_lines x)) (entries x.terms.now r) mv) ≡ at_row mv
   sum_is mv =
       ap₂ (λ m at. sum (t * m) (cross (λ (k : Term) u. record { coefficient = k.coefficient * u.weight; node = at k.node u.state }) (entries x.terms.now r) mv))
-      (sym planned.mass) (sym (places-are R x planned))
+      (sym planned.mass) (sym (places_are R x planned))
 
-  sum-rows-are : node_lines R x (Dist (dn.TheVariants.Sum t r)) ≡ map at_row (rows R)
+  sum_rows_are : node_lines R x (Dist (dn.TheVariants.Sum t r)) ≡ map at_row (rows R)
   unfolding new_line
-  sum-rows-are =
-      ap (λ (f : Move → Line). map (λ k. f (row R k)) (range_with_len 0 (length (rows R)))) (fun_ext sum_is) ∙ looked-up at_row [] (rows R)
+  sum_rows_are =
+      ap (λ (f : Move → Line). map (λ k. f (row R k)) (range_with_len 0 (length (rows R)))) (fun_ext sum_is) ∙ looked_up at_row [] (rows R)
 
-  pub sum-lines-are : node_lines R x (Dist (dn.TheVariants.Sum t r)) ≡ map (λ p. at_row (point R p)) (range_with_len 0 R.states) ++ map at_row (flat_map (moves_of R) (range_with_len 0 R.states))
+  pub sum_lines_are : node_lines R x (Dist (dn.TheVariants.Sum t r)) ≡ map (λ p. at_row (point R p)) (range_with_len 0 R.states) ++ map at_row (flat_map (moves_of R) (range_with_len 0 R.states))
   unfolding rows
-  sum-lines-are =
-      sum-rows-are
+  sum_lines_are =
+      sum_rows_are
       ∙ map-append at_row (map (point R) (range_with_len 0 R.states)) (flat_map (moves_of R) (range_with_len 0 R.states))
       ∙ ap (λ l. l ++ map at_row (flat_map (moves_of R) (range_with_len 0 R.states))) (map-map at_row (point R) (range_with_len 0 R.states))
 

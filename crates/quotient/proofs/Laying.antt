@@ -47,8 +47,8 @@ module _ {X : Type 0} where
       ∙ ap₂ (λ a b. a ++ (xs ++ b)) (take_more_set s f x (omega arith)) (drop-set-lt (f + length (x ∷ xs)) s f x (omega arith))
       ∙ append_assoc (take f s) (x ∷ []) (xs ++ drop (f + length (x ∷ xs)) s)
 
-  pub over-from-start : (t u : Table X) (xs : List X) → t.fill ≡ 0 → u ≡ extended t xs → length xs ≤ length t.slots → length xs ≤ 1048576 → u.slots ≡ over xs t.slots
-  over-from-start t u xs z e room few =
+  pub over_from_start : (t u : Table X) (xs : List X) → t.fill ≡ 0 → u ≡ extended t xs → length xs ≤ length t.slots → length xs ≤ 1048576 → u.slots ≡ over xs t.slots
+  over_from_start t u xs z e room few =
       ap (λ (w : Table X). w.slots) e
       ∙ slots-extended t xs (omega arith) (omega arith)
       ∙ ap₂ (λ n k. take n t.slots ++ (xs ++ drop k t.slots)) z (omega arith)
@@ -131,9 +131,9 @@ module _ (ls : List Line) (ns : List Node) (ts : List Term) (alts : List ℕ) (u
       let ra = room (length alts) (length (alternative_table ls)) others.1 in
       let long = length-nodes 0 0 ls in
       let nodes : u.nodes.slots ≡ over (node_table 0 0 ls) ns =
-      over-from-start (record { slots = ns; fill = 0 }) u.nodes (node_table 0 0 ls) refl
+      over_from_start (record { slots = ns; fill = 0 }) u.nodes (node_table 0 0 ls) refl
       (ap (λ (w : Store). w.nodes) e ∙ laid-nodes (starts ns ts alts) ls (omega (arith, rt.1)) (omega (arith, ra.1)))
       (omega (arith, rn.0)) (omega (arith, rn.1)) in
-      let terms : u.terms.slots ≡ over (term_table ls) ts = over-from-start (record { slots = ts; fill = 0 }) u.terms (term_table ls) refl (ap (λ (w : Store). w.terms) e ∙ laid-terms (starts ns ts alts) ls) rt.0 rt.1 in
-      let alternatives : u.alternatives.slots ≡ over (alternative_table ls) alts = over-from-start (record { slots = alts; fill = 0 }) u.alternatives (alternative_table ls) refl (ap (λ (w : Store). w.alternatives) e ∙ laid-alternatives (starts ns ts alts) ls) ra.0 ra.1 in
+      let terms : u.terms.slots ≡ over (term_table ls) ts = over_from_start (record { slots = ts; fill = 0 }) u.terms (term_table ls) refl (ap (λ (w : Store). w.terms) e ∙ laid-terms (starts ns ts alts) ls) rt.0 rt.1 in
+      let alternatives : u.alternatives.slots ≡ over (alternative_table ls) alts = over_from_start (record { slots = alts; fill = 0 }) u.alternatives (alternative_table ls) refl (ap (λ (w : Store). w.alternatives) e ∙ laid-alternatives (starts ns ts alts) ls) ra.0 ra.1 in
       cc

@@ -44,12 +44,12 @@ module _ {X : Type 0} where
   any_append p [] ys = refl
   any_append p (x ∷ xs) ys = ap (λ b. p x || b) (any_append p xs ys) ∙ sym (or_assoc (p x) (any p xs) (any p ys))
 
-  pub any-on : {P : X → Type 0} {f g : X → Bool} (xs : List X) → AllByRecursion P xs → ((x : X) → P x → f x ≡ g x) → any f xs ≡ any g xs
-  any-on [] h e = refl
-  any-on (x ∷ xs) h e = ap₂ ◌||◌ (e x h.0) (any-on xs h.1 e)
+  pub any_on : {P : X → Type 0} {f g : X → Bool} (xs : List X) → AllByRecursion P xs → ((x : X) → P x → f x ≡ g x) → any f xs ≡ any g xs
+  any_on [] h e = refl
+  any_on (x ∷ xs) h e = ap₂ ◌||◌ (e x h.0) (any_on xs h.1 e)
 
-  pub any-eq : {f g : X → Bool} (xs : List X) → ((x : X) → f x ≡ g x) → any f xs ≡ any g xs
-  any-eq xs e = ap (λ (h : X → Bool). any h xs) (fun_ext e)
+  pub any_eq : {f g : X → Bool} (xs : List X) → ((x : X) → f x ≡ g x) → any f xs ≡ any g xs
+  any_eq xs e = ap (λ (h : X → Bool). any h xs) (fun_ext e)
 
   any_false : (xs : List X) → any (λ _. false) xs ≡ false
   any_false [] = refl
@@ -60,11 +60,11 @@ module _ {X : Type 0} where
   any-or f g (x ∷ xs) = ap (λ b. (f x || g x) || b) (any-or f g xs) ∙ or_mid (f x) (g x) (any f xs) (any g xs)
 
   -- the numbers from b on, one for each element
-  pub any-counting : (φ : ℕ → Bool) (ψ : X → Bool) (d : X) (b : ℕ) (xs : List X) → ((j : ℕ) → j < length xs → φ (b + j) ≡ ψ (get_or xs j d)) → any φ (range_with_len b (length xs)) ≡ any ψ xs
-  any-counting φ ψ d b [] h = refl
-  any-counting φ ψ d b (x ∷ xs) h =
+  pub any_counting : (φ : ℕ → Bool) (ψ : X → Bool) (d : X) (b : ℕ) (xs : List X) → ((j : ℕ) → j < length xs → φ (b + j) ≡ ψ (get_or xs j d)) → any φ (range_with_len b (length xs)) ≡ any ψ xs
+  any_counting φ ψ d b [] h = refl
+  any_counting φ ψ d b (x ∷ xs) h =
       ap₂ ◌||◌ (ap φ (sym (add-zero b)) ∙ h 0 (omega arith))
-      (any-counting φ ψ d (b + 1) xs (λ j l. ap φ (omega arith) ∙ h (suc j) (omega arith)))
+      (any_counting φ ψ d (b + 1) xs (λ j l. ap φ (omega arith) ∙ h (suc j) (omega arith)))
 
 module _ {X Y : Type 0} where
   pub any-map : (p : Y → Bool) (f : X → Y) (xs : List X) → any p (map f xs) ≡ any (λ x. p (f x)) xs
@@ -77,40 +77,40 @@ module _ {X Y : Type 0} where
 
 -- sums
 module _ {X : Type 0} where
-  pub sumBy-on : {P : X → Type 0} {f g : X → ℕ} (xs : List X) → AllByRecursion P xs → ((x : X) → P x → f x ≡ g x) → sum_by f xs ≡ sum_by g xs
-  sumBy-on [] h e = refl
-  sumBy-on {P} {f} {g} (x ∷ xs) h e = sum_by-cons f x xs ∙ ap₂ ◌+◌ (e x h.0) (sumBy-on xs h.1 e) ∙ sym (sum_by-cons g x xs)
+  pub sum_by_on : {P : X → Type 0} {f g : X → ℕ} (xs : List X) → AllByRecursion P xs → ((x : X) → P x → f x ≡ g x) → sum_by f xs ≡ sum_by g xs
+  sum_by_on [] h e = refl
+  sum_by_on {P} {f} {g} (x ∷ xs) h e = sum_by-cons f x xs ∙ ap₂ ◌+◌ (e x h.0) (sum_by_on xs h.1 e) ∙ sym (sum_by-cons g x xs)
 
-  pub sumBy-at : (f g : X → ℕ) (xs : List X) (d : X) → ((i : ℕ) → i < length xs → f (get_or xs i d) ≡ g (get_or xs i d)) → sum_by f xs ≡ sum_by g xs
-  sumBy-at f g xs d e = sumBy-on xs (All-from_get_or (λ x. f x ≡ g x) xs d e) (λ x h. h)
+  pub sum_by_at : (f g : X → ℕ) (xs : List X) (d : X) → ((i : ℕ) → i < length xs → f (get_or xs i d) ≡ g (get_or xs i d)) → sum_by f xs ≡ sum_by g xs
+  sum_by_at f g xs d e = sum_by_on xs (All-from_get_or (λ x. f x ≡ g x) xs d e) (λ x h. h)
 
-  pub sumBy-eq : {f g : X → ℕ} (xs : List X) → ((x : X) → f x ≡ g x) → sum_by f xs ≡ sum_by g xs
-  sumBy-eq xs e = ap (λ (h : X → ℕ). sum_by h xs) (fun_ext e)
+  pub sum_by_eq : {f g : X → ℕ} (xs : List X) → ((x : X) → f x ≡ g x) → sum_by f xs ≡ sum_by g xs
+  sum_by_eq xs e = ap (λ (h : X → ℕ). sum_by h xs) (fun_ext e)
 
-  pub sumBy-mul : (c : ℕ) (f : X → ℕ) (xs : List X) → sum_by (λ x. c * f x) xs ≡ c * sum_by f xs
-  sumBy-mul c f [] = sym (mul-zero c)
-  sumBy-mul c f (x ∷ xs) = sum_by-cons (λ y. c * f y) x xs ∙ ap (λ n. c * f x + n) (sumBy-mul c f xs) ∙ sym (mul-add c (f x) (sum_by f xs)) ∙ ap (λ n. c * n) (sym (sum_by-cons f x xs))
+  pub sum_by_mul : (c : ℕ) (f : X → ℕ) (xs : List X) → sum_by (λ x. c * f x) xs ≡ c * sum_by f xs
+  sum_by_mul c f [] = sym (mul-zero c)
+  sum_by_mul c f (x ∷ xs) = sum_by-cons (λ y. c * f y) x xs ∙ ap (λ n. c * f x + n) (sum_by_mul c f xs) ∙ sym (mul-add c (f x) (sum_by f xs)) ∙ ap (λ n. c * n) (sym (sum_by-cons f x xs))
 
-  sumBy-zero : (xs : List X) → sum_by (λ _. 0) xs ≡ 0
-  sumBy-zero [] = refl
-  sumBy-zero (x ∷ xs) = sumBy-zero xs
+  sum_by_zero : (xs : List X) → sum_by (λ _. 0) xs ≡ 0
+  sum_by_zero [] = refl
+  sum_by_zero (x ∷ xs) = sum_by_zero xs
 
-  sumBy-add : (f g : X → ℕ) (xs : List X) → sum_by (λ x. f x + g x) xs ≡ sum_by f xs + sum_by g xs
-  sumBy-add f g [] = refl
-  sumBy-add f g (x ∷ xs) = omega (arith, sum_by-cons (λ y. f y + g y) x xs, sumBy-add f g xs, sum_by-cons f x xs, sum_by-cons g x xs)
+  sum_by_add : (f g : X → ℕ) (xs : List X) → sum_by (λ x. f x + g x) xs ≡ sum_by f xs + sum_by g xs
+  sum_by_add f g [] = refl
+  sum_by_add f g (x ∷ xs) = omega (arith, sum_by-cons (λ y. f y + g y) x xs, sum_by_add f g xs, sum_by-cons f x xs, sum_by-cons g x xs)
 
   -- what the front has, with the next element
-  pub sumBy-room : (w : X → ℕ) (xs : List X) (j i : ℕ) (d : X) → j < i → i ≤ length xs → sum_by w (take j xs) + w (get_or xs j d) ≤ sum_by w (take i xs)
-  sumBy-room w xs j i d h l =
+  pub sum_by_room : (w : X → ℕ) (xs : List X) (j i : ℕ) (d : X) → j < i → i ≤ length xs → sum_by w (take j xs) + w (get_or xs j d) ≤ sum_by w (take i xs)
+  sum_by_room w xs j i d h l =
       let k : j < length xs = omega arith in
       let e : take (j + 1) (take i xs) ≡ take (j + 1) xs = take-take (j + 1) i xs (omega arith) in
       omega (arith, sum_by_more w xs j d k, ap (sum_by w) e, sum_by-take-le w (take i xs) (j + 1))
 
 module _ {X Y : Type 0} where
-  pub sumBy-swap : (g : X → Y → ℕ) (xs : List X) (ys : List Y) → sum_by (λ x. sum_by (g x) ys) xs ≡ sum_by (λ y. sum_by (λ x. g x y) xs) ys
-  sumBy-swap g [] ys = sym (sumBy-zero ys)
-  sumBy-swap g (x ∷ xs) ys =
-      sum_by-cons (λ z. sum_by (g z) ys) x xs ∙ ap (λ n. sum_by (g x) ys + n) (sumBy-swap g xs ys) ∙ sym (sumBy-add (g x) (λ y. sum_by (λ z. g z y) xs) ys)
+  pub sum_by_swap : (g : X → Y → ℕ) (xs : List X) (ys : List Y) → sum_by (λ x. sum_by (g x) ys) xs ≡ sum_by (λ y. sum_by (λ x. g x y) xs) ys
+  sum_by_swap g [] ys = sym (sum_by_zero ys)
+  sum_by_swap g (x ∷ xs) ys =
+      sum_by-cons (λ z. sum_by (g z) ys) x xs ∙ ap (λ n. sum_by (g x) ys + n) (sum_by_swap g xs ys) ∙ sym (sum_by_add (g x) (λ y. sum_by (λ z. g z y) xs) ys)
       ∙ ap (λ (h : Y → ℕ). sum_by h ys) (fun_ext (λ y. sym (sum_by-cons (λ z. g z y) x xs)))
 
   pub sum_by_map : (h : Y → ℕ) (f : X → Y) (xs : List X) → sum_by h (map f xs) ≡ sum_by (λ x. h (f x)) xs
@@ -118,8 +118,8 @@ module _ {X Y : Type 0} where
   sum_by_map h f (x ∷ xs) = sum_by-cons h (f x) (map f xs) ∙ ap (λ n. h (f x) + n) (sum_by_map h f xs) ∙ sym (sum_by-cons (λ y. h (f y)) x xs)
 
   -- a list, looked up by numbers
-  pub looked-up : (f : X → Y) (d : X) (xs : List X) → map (λ k. f (get_or xs k d)) (range_with_len 0 (length xs)) ≡ map f xs
-  looked-up f d xs = sym (fill_by_all (λ k. f (get_or xs k d)) (map f xs) (length xs) (f d) (length-map xs f) (λ k h. get_or-map f xs k d (f d) h))
+  pub looked_up : (f : X → Y) (d : X) (xs : List X) → map (λ k. f (get_or xs k d)) (range_with_len 0 (length xs)) ≡ map f xs
+  looked_up f d xs = sym (fill_by_all (λ k. f (get_or xs k d)) (map f xs) (length xs) (f d) (length-map xs f) (λ k h. get_or-map f xs k d (f d) h))
 
 -- each of one list with each of another
 module _ {X Y Z : Type 0} (f : X → Y → Z) where
@@ -128,11 +128,11 @@ module _ {X Y Z : Type 0} (f : X → Y → Z) where
   any-cross p [] ys = refl
   any-cross p (x ∷ xs) ys = any_append p (map (f x) ys) (cross f xs ys) ∙ ap₂ ◌||◌ (any-map p (f x) ys) (any-cross p xs ys)
 
-  pub sumBy-cross : (h : Z → ℕ) (xs : List X) (ys : List Y) → sum_by h (cross f xs ys) ≡ sum_by (λ x. sum_by (λ y. h (f x y)) ys) xs
+  pub sum_by_cross : (h : Z → ℕ) (xs : List X) (ys : List Y) → sum_by h (cross f xs ys) ≡ sum_by (λ x. sum_by (λ y. h (f x y)) ys) xs
   unfolding cross
-  sumBy-cross h [] ys = refl
-  sumBy-cross h (x ∷ xs) ys =
-      sum_by-append h (map (f x) ys) (cross f xs ys) ∙ ap₂ ◌+◌ (sum_by_map h (f x) ys) (sumBy-cross h xs ys) ∙ sym (sum_by-cons (λ z. sum_by (λ y. h (f z y)) ys) x xs)
+  sum_by_cross h [] ys = refl
+  sum_by_cross h (x ∷ xs) ys =
+      sum_by-append h (map (f x) ys) (cross f xs ys) ∙ ap₂ ◌+◌ (sum_by_map h (f x) ys) (sum_by_cross h xs ys) ∙ sym (sum_by-cons (λ z. sum_by (λ y. h (f z y)) ys) x xs)
 
   pub length-cross : (xs : List X) (ys : List Y) → length (cross f xs ys) ≡ length xs * length ys
   unfolding cross
@@ -202,4 +202,4 @@ module _ {Y : Type 0} (f : ℕ → List Y) where
   numbered-room n i h =
       let k : n ≤ length (range_with_len 0 n) = omega (arith, length-range_with_len 0 n) in
       let g : get_or (range_with_len 0 n) i 0 ≡ i = get_or-range_with_len 0 n i 0 h ∙ zero-add i in
-      omega (arith, length-joined f (λ k. length (f k)) (λ k. refl) (range_with_len 0 n), sumBy-room (λ k. length (f k)) (range_with_len 0 n) i n 0 h k, ap (λ (x : ℕ). length (f x)) g, ap (sum_by (λ k. length (f k))) (take_counting n i (omega arith)), ap (sum_by (λ k. length (f k))) (take_counting n n (omega arith)))
+      omega (arith, length-joined f (λ k. length (f k)) (λ k. refl) (range_with_len 0 n), sum_by_room (λ k. length (f k)) (range_with_len 0 n) i n 0 h k, ap (λ (x : ℕ). length (f x)) g, ap (sum_by (λ k. length (f k))) (take_counting n i (omega arith)), ap (sum_by (λ k. length (f k))) (take_counting n n (omega arith)))

@@ -14,7 +14,7 @@ use Rattle.quotient.specs.Quotient.{quotient}
 use Rattle.systems.specs.Stacks.{stack}
 use Rattle.quotient.specs.Theorems.{Into, OrderLaw}
 use Rattle.formulas.specs.WellFormed.{WellFormed}
-use Rattle.quotient.proofs.Lists.{any_append, any-on, any-eq, any-map, any_swap, any-cross, or_left, sumBy-on, sumBy-eq, sumBy-swap, sumBy-cross}
+use Rattle.quotient.proofs.Lists.{any_append, any_on, any_eq, any-map, any_swap, any-cross, or_left, sum_by_on, sum_by_eq, sum_by_swap, sum_by_cross}
 use Rattle.quotient.proofs.Piles.{pile-at, pair_into}
 use Rattle.quotient.proofs.Quotients.{quotient-law}
 use Rattle.quotient.proofs.Rules.{stack_shaped}
@@ -33,33 +33,33 @@ module _ (A : ℕ → Bool) (r₁ r₂ X : Meaning) (φ : Move → Bool) where
       any (λ m₁. three m₁ (point r₂ u₂) (point X v)) (r₁.moves u₁ a)
       || (any (λ m₂. three (point r₁ u₁) m₂ (point X v)) (r₂.moves u₂ a) || any (three (point r₁ u₁) (point r₂ u₂)) (X.moves v a))
 
-  two-moves : (u₁ u₂ v a : ℕ) → u₁ < r₁.states → u₂ < r₂.states → v < X.states
+  two_moves : (u₁ u₂ v a : ℕ) → u₁ < r₁.states → u₂ < r₂.states → v < X.states
       → any φ ((pile A r₁ (pile A r₂ X)).moves (u₁ * (r₂.states * X.states) + (u₂ * X.states + v)) a) ≡ cond (A a) (together u₁ u₂ v a) (apart u₁ u₂ v a)
   unfolding moves_over cross
-  two-moves u₁ u₂ v a h₁ h₂ hv =
+  two_moves u₁ u₂ v a h₁ h₂ hv =
       ap (any φ) (pile-at A r₁ (pile A r₂ X) u₁ (u₂ * X.states + v) a h₁ (digits_lt h₂ hv))
-      ∙ ap (λ (ms : List Move). any φ (on-top (A a) ms)) (pile-at A r₂ X u₂ v a h₂ hv)
+      ∙ ap (λ (ms : List Move). any φ (on_top (A a) ms)) (pile-at A r₂ X u₂ v a h₂ hv)
       ∙ go (A a)
     where
       K : ℕ
       K = r₂.states * X.states
 
-      on-top : Bool → List Move → List Move
-      on-top b ms = cond b (cross (pair K) (r₁.moves u₁ a) ms) (map (λ mu. pair K mu (point (pile A r₂ X) (u₂ * X.states + v))) (r₁.moves u₁ a) ++ map (pair K (point r₁ u₁)) ms)
+      on_top : Bool → List Move → List Move
+      on_top b ms = cond b (cross (pair K) (r₁.moves u₁ a) ms) (map (λ mu. pair K mu (point (pile A r₂ X) (u₂ * X.states + v))) (r₁.moves u₁ a) ++ map (pair K (point r₁ u₁)) ms)
 
-      go : (b : Bool) → any φ (on-top b (cond b (cross (pair X.states) (r₂.moves u₂ a) (X.moves v a)) (map (λ mu. pair X.states mu (point X v)) (r₂.moves u₂ a) ++ map (pair X.states (point r₂ u₂)) (X.moves v a))))
+      go : (b : Bool) → any φ (on_top b (cond b (cross (pair X.states) (r₂.moves u₂ a) (X.moves v a)) (map (λ mu. pair X.states mu (point X v)) (r₂.moves u₂ a) ++ map (pair X.states (point r₂ u₂)) (X.moves v a))))
           ≡ cond b (together u₁ u₂ v a) (apart u₁ u₂ v a)
       go true =
           any-cross (pair K) φ (r₁.moves u₁ a) (cross (pair X.states) (r₂.moves u₂ a) (X.moves v a))
-          ∙ any-eq (r₁.moves u₁ a) (λ m₁. any-cross (pair X.states) (λ m. φ (pair K m₁ m)) (r₂.moves u₂ a) (X.moves v a))
+          ∙ any_eq (r₁.moves u₁ a) (λ m₁. any-cross (pair X.states) (λ m. φ (pair K m₁ m)) (r₂.moves u₂ a) (X.moves v a))
       go false = simp (any_append, any-map)
 
 -- what a test of three weighs
 weigh_three : (P : ℕ → Bool) (K k : ℕ) (m₁ m₂ m : Move) → weigh P (pair K m₁ (pair k m₂ m))
     ≡ sum_by (λ t₁. sum_by (λ t₂. sum_by (λ t. cond (P (t₁.state * K + (t₂.state * k + t.state))) (t₁.weight * (t₂.weight * t.weight)) 0) m) m₂) m₁
 weigh_three P K k m₁ m₂ m =
-    sumBy-cross (over K) (λ t. cond (P t.state) t.weight 0) m₁ (pair k m₂ m)
-    ∙ sumBy-eq m₁ (λ t₁. sumBy-cross (over k) (λ t. cond (P (t₁.state * K + t.state)) (t₁.weight * t.weight) 0) m₂ m)
+    sum_by_cross (over K) (λ t. cond (P t.state) t.weight 0) m₁ (pair k m₂ m)
+    ∙ sum_by_eq m₁ (λ t₁. sum_by_cross (over k) (λ t. cond (P (t₁.state * K + t.state)) (t₁.weight * t.weight) 0) m₂ m)
 
 -- where a state goes when the two systems on top change places: n₁, n₂ and k are the numbers of states
 swapped : ℕ → ℕ → ℕ → ℕ → ℕ
@@ -93,9 +93,9 @@ module _ (A : ℕ → Bool) (r₁ r₂ X : Meaning) (h₁ : Shaped r₁) (h₂ :
     pair_into r₁.states (r₂.states * X.states) m₁ (pair X.states m₂ m) b₁ (pair_into r₂.states X.states m₂ m b₂ b),
     λ P.
         weigh_three (λ s. P (f s)) (r₂.states * X.states) X.states m₁ m₂ m
-        ∙ sumBy-on m₁ b₁ (λ t₁ l₁. sumBy-on m₂ b₂ (λ t₂ l₂. sumBy-on m b (λ t l.
+        ∙ sum_by_on m₁ b₁ (λ t₁ l₁. sum_by_on m₂ b₂ (λ t₂ l₂. sum_by_on m b (λ t l.
         ap₂ (λ (s w : ℕ). cond (P s) w 0) (swapped_at r₁.states r₂.states X.states t₁.state t₂.state t.state l₂ l) (mul_left_comm t₁.weight t₂.weight t.weight))))
-        ∙ sumBy-swap (λ t₁ t₂. sum_by (λ t. cond (P (t₂.state * (r₁.states * X.states) + (t₁.state * X.states + t.state))) (t₂.weight * (t₁.weight * t.weight)) 0) m) m₁ m₂
+        ∙ sum_by_swap (λ t₁ t₂. sum_by (λ t. cond (P (t₂.state * (r₁.states * X.states) + (t₁.state * X.states + t.state))) (t₂.weight * (t₁.weight * t.weight)) 0) m) m₁ m₂
         ∙ sym (weigh_three P (r₁.states * X.states) X.states m₂ m₁ m),
   )
 
@@ -105,22 +105,22 @@ module _ (A : ℕ → Bool) (r₁ r₂ X : Meaning) (h₁ : Shaped r₁) (h₂ :
 
     together-same : (u₁ u₂ v a : ℕ) → together A r₁ r₂ X φ u₁ u₂ v a ≡ together A r₂ r₁ X φ' u₂ u₁ v a
     together-same u₁ u₂ v a =
-        any-on (r₁.moves u₁ a) (h₁.closed u₁ a) (λ m₁ b₁. any-on (r₂.moves u₂ a) (h₂.closed u₂ a) (λ m₂ b₂. any-on (X.moves v a) (hX.closed v a) (λ m b. same m₁ m₂ m b₁ b₂ b)))
+        any_on (r₁.moves u₁ a) (h₁.closed u₁ a) (λ m₁ b₁. any_on (r₂.moves u₂ a) (h₂.closed u₂ a) (λ m₂ b₂. any_on (X.moves v a) (hX.closed v a) (λ m b. same m₁ m₂ m b₁ b₂ b)))
         ∙ any_swap (λ m₁ m₂. any (three A r₂ r₁ X φ' m₂ m₁) (X.moves v a)) (r₁.moves u₁ a) (r₂.moves u₂ a)
 
     apart-same : (u₁ u₂ v a : ℕ) → u₁ < r₁.states → u₂ < r₂.states → v < X.states → apart A r₁ r₂ X φ u₁ u₂ v a ≡ apart A r₂ r₁ X φ' u₂ u₁ v a
     apart-same u₁ u₂ v a l₁ l₂ l =
-        ap₂ ◌||◌ (any-on (r₁.moves u₁ a) (h₁.closed u₁ a) (λ m₁ b₁. same m₁ (point r₂ u₂) (point X v) b₁ (l₂, tt) (l, tt)))
-        (ap₂ ◌||◌ (any-on (r₂.moves u₂ a) (h₂.closed u₂ a) (λ m₂ b₂. same (point r₁ u₁) m₂ (point X v) (l₁, tt) b₂ (l, tt)))
-        (any-on (X.moves v a) (hX.closed v a) (λ m b. same (point r₁ u₁) (point r₂ u₂) m (l₁, tt) (l₂, tt) b)))
+        ap₂ ◌||◌ (any_on (r₁.moves u₁ a) (h₁.closed u₁ a) (λ m₁ b₁. same m₁ (point r₂ u₂) (point X v) b₁ (l₂, tt) (l, tt)))
+        (ap₂ ◌||◌ (any_on (r₂.moves u₂ a) (h₂.closed u₂ a) (λ m₂ b₂. same (point r₁ u₁) m₂ (point X v) (l₁, tt) b₂ (l, tt)))
+        (any_on (X.moves v a) (hX.closed v a) (λ m b. same (point r₁ u₁) (point r₂ u₂) m (l₁, tt) (l₂, tt) b)))
         ∙ or_left (any (λ m₁. three A r₂ r₁ X φ' (point r₂ u₂) m₁ (point X v)) (r₁.moves u₁ a)) (any (λ m₂. three A r₂ r₁ X φ' m₂ (point r₁ u₁) (point X v)) (r₂.moves u₂ a)) (any (three A r₂ r₁ X φ' (point r₂ u₂) (point r₁ u₁)) (X.moves v a))
 
     moves-at : (u₁ u₂ v a : ℕ) → u₁ < r₁.states → u₂ < r₂.states → v < X.states
         → any φ (Y.moves (u₁ * (r₂.states * X.states) + (u₂ * X.states + v)) a) ≡ any φ' (Y'.moves (f (u₁ * (r₂.states * X.states) + (u₂ * X.states + v))) a)
     moves-at u₁ u₂ v a l₁ l₂ l =
-        two-moves A r₁ r₂ X φ u₁ u₂ v a l₁ l₂ l
+        two_moves A r₁ r₂ X φ u₁ u₂ v a l₁ l₂ l
         ∙ ap₂ (cond (A a)) (together-same u₁ u₂ v a) (apart-same u₁ u₂ v a l₁ l₂ l)
-        ∙ sym (two-moves A r₂ r₁ X φ' u₂ u₁ v a l₂ l₁ l)
+        ∙ sym (two_moves A r₂ r₁ X φ' u₂ u₁ v a l₂ l₁ l)
         ∙ ap (λ (s : ℕ). any φ' (Y'.moves s a)) (sym (swapped_at r₁.states r₂.states X.states u₁ u₂ v l₂ l))
 
     moves-same : (s a : ℕ) → s < Y.states → any φ (Y.moves s a) ≡ any φ' (Y'.moves (f s) a)

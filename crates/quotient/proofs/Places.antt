@@ -9,7 +9,7 @@ use Rattle.formulas.specs.Lines.{Sort, state, dist, Line, constant, both, non, s
 use Rattle.quotient.specs.Quotient.{moves_of, rows, row, first_row, move_rows, width, place, places, move_places, new_step, new_term, new_line, new_lines, quotient_lines, quotient}
 use Rattle.quotient.specs.Theorems.{Into}
 use Rattle.formulas.specs.WellFormed.{line_at, Part, Fits, Fitting, WellFormed}
-use Rattle.quotient.proofs.Lists.{all_cross, all_counting, all-joined, sumBy-room, length-joined, joined_at, joined-split, numbered-at, numbered-room}
+use Rattle.quotient.proofs.Lists.{all_cross, all_counting, all-joined, sum_by_room, length-joined, joined_at, joined-split, numbered-at, numbered-room}
 
 -- rows
 module _ (R : Meaning) where
@@ -81,9 +81,9 @@ module _ (A : ℕ → Bool) (R : Meaning) (ls : List Line) where
   unfolding place
   quotient-length = omega (arith, length-joined (new_lines A R ls) wide new-length ls, ap (sum_by wide) (take_all (length ls) ls (omega arith)))
 
-  pub line-at-place : (i p : ℕ) → i < length ls → p < wide (line_at ls i) → line_at (quotient_lines A R ls) (place R ls i p) ≡ new_line A R ls (line_at ls i) p
+  pub line_at-place : (i p : ℕ) → i < length ls → p < wide (line_at ls i) → line_at (quotient_lines A R ls) (place R ls i p) ≡ new_line A R ls (line_at ls i) p
   unfolding place
-  line-at-place i p h l =
+  line_at-place i p h l =
       joined_at (new_lines A R ls) wide new-length ls i p (constant state true) (constant state true) h l
       ∙ get_or-map-range_with_len (new_line A R ls (line_at ls i)) 0 (wide (line_at ls i)) p p (constant state true) l (omega arith)
 
@@ -94,8 +94,8 @@ module _ (A : ℕ → Bool) (R : Meaning) (ls : List Line) where
       let k : q < wide (line_at ls j) = subst (λ (τ : Sort). q < width R τ) (sym part.sorted) l in
       let j<i = part.before in
       record {
-        before = omega (arith, sumBy-room wide ls j i (constant state true) j<i h);
-        sorted = ap sort (line-at-place j q (omega arith) k) ∙ new-sort (line_at ls j) q ∙ part.sorted;
+        before = omega (arith, sum_by_room wide ls j i (constant state true) j<i h);
+        sorted = ap sort (line_at-place j q (omega arith) k) ∙ new-sort (line_at ls j) q ∙ part.sorted;
       }
 
   -- so lines give lines of the quotient
@@ -111,9 +111,9 @@ module _ (A : ℕ → Bool) (R : Meaning) (ls : List Line) where
     unfolding New
     places-fit q ds l ps = All-map (New dist) (λ d. place R ls d q) ds (All-weaker (Part ls i dist) (λ d. New dist (place R ls d q)) (λ d part. part-place i p h dist d q part (point-row R q l)) ds ps)
 
-    move-places-fit : (q a : ℕ) (ds : List ℕ) → q < R.states → a < 32 → AllByRecursion (Part ls i dist) ds → AllByRecursion (New dist) (move_places R ls ds q a)
+    move-places_fit : (q a : ℕ) (ds : List ℕ) → q < R.states → a < 32 → AllByRecursion (Part ls i dist) ds → AllByRecursion (New dist) (move_places R ls ds q a)
     unfolding New
-    move-places-fit q a ds l ha ps =
+    move-places_fit q a ds l ha ps =
         all_cross (place R ls) (New dist) ds (move_rows R q a) ps (all_counting (λ r. r < length (rows R)) (first_row R q a) (length (R.moves q a)) (λ j k. move_row R q a j l ha k))
         (λ d r part k. part-place i p h dist d r part k)
 
@@ -124,8 +124,8 @@ module _ (A : ℕ → Bool) (R : Meaning) (ls : List Line) where
     new-fits (non σ j) f l = part-place i p h σ j p f l
     new-fits (step a ms hs) f l =
         elim (A a) as (λ b. Fits (quotient_lines A R ls) (place R ls i p) (new_step b R ls a ms hs p)) [
-          | true ↦ (f.0, move-places-fit p a ms l f.0 f.1, places-fit p hs l f.2)
-          | false ↦ (f.0, places-fit p ms l f.1, All-append (New dist) (move_places R ls ms p a) (places R ls hs p) (move-places-fit p a ms l f.0 f.1) (places-fit p hs l f.2))
+          | true ↦ (f.0, move-places_fit p a ms l f.0 f.1, places-fit p hs l f.2)
+          | false ↦ (f.0, places-fit p ms l f.1, All-append (New dist) (move_places R ls ms p a) (places R ls hs p) (move-places_fit p a ms l f.0 f.1) (places-fit p hs l f.2))
         ]
     new-fits (sum t ks) f l =
         all_cross (new_term R ls) (λ k. New state k.node) ks (row R p) f
@@ -139,7 +139,7 @@ module _ (A : ℕ → Bool) (R : Meaning) (ls : List Line) where
       let i = at.part in
       let p = at.inner in
       let fits : Fits (quotient_lines A R ls) (place R ls i p) (line_at (quotient_lines A R ls) (place R ls i p)) =
-      subst (Fits (quotient_lines A R ls) (place R ls i p)) (sym (line-at-place i p at.within at.short)) (new-fits shaped i p (omega (arith, at.within)) (line_at ls i) (fit i at.within) at.short) in
+      subst (Fits (quotient_lines A R ls) (place R ls i p)) (sym (line_at-place i p at.within at.short)) (new-fits shaped i p (omega (arith, at.within)) (line_at ls i) (fit i at.within) at.short) in
       subst (λ (k : ℕ). Fits (quotient_lines A R ls) k (line_at (quotient_lines A R ls) k)) (sym at.sum_is) fits
 
 pub quotient-formed : (A : ℕ → Bool) (R : Meaning) (F : Formula) → Shaped R → WellFormed F → WellFormed (quotient A R F)

@@ -21,7 +21,7 @@ use Rattle.quotient.specs.Divisions.{remainder, placed, divided, whole_remainder
 use Rattle.quotient.specs.Plans.{width_before, topped, all_targets, alternative_need}
 use Rattle.quotient.specs.Quotient.{rows}
 use Rattle.quotient.proofs.Laying.{room}
-use Rattle.quotient.proofs.Sizes.{no-fewer, nodes_needed, terms-needed, alternatives_needed}
+use Rattle.quotient.proofs.Sizes.{no-fewer, nodes_needed, terms_needed, alternatives_needed}
 
 -- a need that is too great has no room
 takes-not : (size need : ℕ) → 1048576 < need → takes size need ≡ false
@@ -90,7 +90,7 @@ module _ (A : ActionSet) (R : Meaning) (t : Tables) (root : ℕ) (d : Dividable 
   pub term-count : LayoutLaw → (count : ℕ) → count ≡ topped (length t.terms.now * all_targets R) → count ≡ topped (length (term_table Q))
   term-count layout count e =
       let same = (layout t.nodes.now t.terms.now t.alternatives.now root d.removed d.held).1 in
-      e ∙ ap (λ l. topped (length l * all_targets R)) (sym same) ∙ ap topped (sym (terms-needed (has A) R ls))
+      e ∙ ap (λ l. topped (length l * all_targets R)) (sym same) ∙ ap topped (sym (terms_needed (has A) R ls))
 
   pub alternative-count : (count : ℕ) → count ≡ topped (sum_by (alternative_need (has A) R) t.nodes.now) → count ≡ topped (length (alternative_table Q))
   alternative-count count e = e ∙ ap topped (sym (alternatives_needed (has A) R t.nodes.now t.terms.now t.alternatives.now d.removed d.right))

@@ -22,12 +22,12 @@ module _ (A : ℕ → Bool) (U L : Meaning) (some : 1 ≤ L.states) where
       (λ _. outside)
 
   -- what holds of the pairs of what holds of upper and of lower moves and points
-  by-pairs : (G H Q : Move → Type 0)
+  by_pairs : (G H Q : Move → Type 0)
       → ((u a : ℕ) → AllByRecursion G (U.moves u a)) → ((u : ℕ) → u < U.states → G (point U u))
       → ((v a : ℕ) → AllByRecursion H (L.moves v a)) → ((v : ℕ) → v < L.states → H (point L v))
       → ((mu ml : Move) → G mu → H ml → Q (pair L.states mu ml)) → (k a : ℕ) → AllByRecursion Q ((pile A U L).moves k a)
   unfolding moves_over
-  by-pairs G H Q mg pg mh ph q k a = by-states (AllByRecursion Q) k a (λ u v hu hv.
+  by_pairs G H Q mg pg mh ph q k a = by-states (AllByRecursion Q) k a (λ u v hu hv.
       cond_both (A a) (cross (pair L.states) (U.moves u a) (L.moves v a)) (map (λ mu. pair L.states mu (point L v)) (U.moves u a) ++ map (pair L.states (point U u)) (L.moves v a)) (AllByRecursion Q)
       (λ _. all_cross (pair L.states) Q (U.moves u a) (L.moves v a) (mg u a) (mh v a) q)
       (λ _. All-append Q (map (λ mu. pair L.states mu (point L v)) (U.moves u a)) (map (pair L.states (point U u)) (L.moves v a))
@@ -38,7 +38,7 @@ pub pile_shaped : (A : ℕ → Bool) (U L : Meaning) → Shaped U → Shaped L �
 pile_shaped A U L hU hL = record {
   some = one-le-mul hU.some hL.some;
   closed =
-      by-pairs A U L hL.some (Into U.states) (Into L.states) (Into (U.states * L.states))
+      by_pairs A U L hL.some (Into U.states) (Into L.states) (Into (U.states * L.states))
       hU.closed (λ u l. (l, tt)) hL.closed (λ v l. (l, tt)) (pair_into U.states L.states);
 }
 

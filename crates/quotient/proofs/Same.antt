@@ -6,7 +6,7 @@ use Rattle.formulas.specs.Lines.{is_state, is_dist, Line, constant, both, non, s
 use Rattle.formulas.specs.Truths.{Truth, truth, truths, at_node, weigh, any, holds}
 use Rattle.quotient.specs.Theorems.{Into}
 use Rattle.formulas.specs.WellFormed.{line_at, Fits, Fitting, WellFormed}
-use Rattle.quotient.proofs.Lists.{each, any-on, sumBy-on}
+use Rattle.quotient.proofs.Lists.{each, any_on, sum_by_on}
 use Rattle.quotient.proofs.Course.{look, truths-at}
 use Rattle.quotient.proofs.Piles.{weigh_on}
 
@@ -41,15 +41,15 @@ module _ (S S' : Meaning) (f : ℕ → ℕ) where
     line_same i T T' same (step a ms hs) h = record {
       at = λ s l.
           ap₂ ◌||◌
-          (mapped.moves s a l (λ mv. any (λ d. (look T d).of mv) ms) (λ mv. any (λ d. (look T' d).of mv) ms) (λ mv mv' n. any-on ms h.1 (λ d p. (same d p.before).of mv mv' n)))
-          (any-on hs h.2 (λ d p. (same d p.before).of (point S s) (point S' (f s)) (point-near s l)));
+          (mapped.moves s a l (λ mv. any (λ d. (look T d).of mv) ms) (λ mv. any (λ d. (look T' d).of mv) ms) (λ mv mv' n. any_on ms h.1 (λ d p. (same d p.before).of mv mv' n)))
+          (any_on hs h.2 (λ d p. (same d p.before).of (point S s) (point S' (f s)) (point-near s l)));
       of = λ mv mv' n. refl;
     }
     line_same i T T' same (sum t ks) h = record {
       at = λ s l. refl;
       of = λ mv mv' n.
           ap₂ leb (ap (λ m. t * m) mapped.mass)
-          (sumBy-on ks h (λ k p. ap (λ w. k.coefficient * w)
+          (sum_by_on ks h (λ k p. ap (λ w. k.coefficient * w)
           (weigh_on S.states (at_node T k.node) (λ s. at_node T' k.node (f s)) mv n.0 (same k.node p.before).at ∙ n.1 (at_node T' k.node))));
     }
 

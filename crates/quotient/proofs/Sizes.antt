@@ -17,7 +17,7 @@ use Rattle.formulas.specs.Lines.{Sort, state, dist, Line, constant, both, non, s
 use Rattle.formulas.specs.Right.{Right, AllRight}
 use Rattle.quotient.specs.Quotient.{moves_of, rows, move_rows, width, place, places, new_step, new_term, new_line, new_lines, quotient_lines}
 use Rattle.quotient.specs.Plans.{width_before, all_targets, step_need, alternative_need}
-use Rattle.quotient.proofs.Lists.{length-cross, looked-up, sum_by_map, sumBy-at, sumBy-eq, sumBy-mul}
+use Rattle.quotient.proofs.Lists.{length-cross, looked_up, sum_by_map, sum_by_at, sum_by_eq, sum_by_mul}
 use Rattle.quotient.proofs.Places.{new-length, quotient-length, point-row}
 use Rattle.quotient.proofs.Planning.{no_node}
 use Rattle.quotient.proofs.Dividing.{place_at}
@@ -44,16 +44,16 @@ length-entries : {X : Type 0} (xs : List X) (r : Run) → r.first + r.count ≤ 
 length-entries xs r h = length-take-le r.count (drop r.first xs) (omega (arith, length-drop r.first xs))
 
 module _ (R : Meaning) where
-  points-targets : (ps : List ℕ) → sum_by length (map (point R) ps) ≡ length ps
-  points-targets [] = refl
-  points-targets (p ∷ ps) = omega (arith, sum_by-cons length (point R p) (map (point R) ps), points-targets ps)
+  points_targets : (ps : List ℕ) → sum_by length (map (point R) ps) ≡ length ps
+  points_targets [] = refl
+  points_targets (p ∷ ps) = omega (arith, sum_by-cons length (point R p) (map (point R) ps), points_targets ps)
 
-  rows-targets : sum_by length (rows R) ≡ all_targets R
+  rows_targets : sum_by length (rows R) ≡ all_targets R
   unfolding rows
-  rows-targets =
+  rows_targets =
       let ps = range_with_len 0 R.states in
       sum_by-append length (map (point R) ps) (flat_map (moves_of R) ps)
-      ∙ ap₂ ◌+◌ (points-targets ps ∙ length-range_with_len 0 R.states) (sum_by_joined length (moves_of R) ps ∙ sumBy-eq ps (λ p. sum_by_joined length (R.moves p) (range_with_len 0 32)))
+      ∙ ap₂ ◌+◌ (points_targets ps ∙ length-range_with_len 0 R.states) (sum_by_joined length (moves_of R) ps ∙ sum_by_eq ps (λ p. sum_by_joined length (R.moves p) (range_with_len 0 32)))
 
 -- each line gives at least one
 module _ (A : ℕ → Bool) (R : Meaning) (some : 1 ≤ R.states) where
@@ -74,34 +74,34 @@ nodes_needed A R n r en er ns ts alts =
 
 module _ (A : ℕ → Bool) (R : Meaning) (ls : List Line) where
   -- what each line gives
-  none-given : (w : Line → ℕ) (f : ℕ → Line) → ((p : ℕ) → w (f p) ≡ 0) → (ps : List ℕ) → sum_by w (map f ps) ≡ 0
-  none-given w f h [] = refl
-  none-given w f h (p ∷ ps) = omega (arith, sum_by-cons w (f p) (map f ps), h p, none-given w f h ps)
+  none_given : (w : Line → ℕ) (f : ℕ → Line) → ((p : ℕ) → w (f p) ≡ 0) → (ps : List ℕ) → sum_by w (map f ps) ≡ 0
+  none_given w f h [] = refl
+  none_given w f h (p ∷ ps) = omega (arith, sum_by-cons w (f p) (map f ps), h p, none_given w f h ps)
 
   no-terms : (b : Bool) (a : ℕ) (ms hs : List ℕ) (p : ℕ) → term-count (new_step b R ls a ms hs p) ≡ 0
   no-terms true a ms hs p = refl
   no-terms false a ms hs p = refl
 
-  terms-given : (l : Line) → sum_by term-count (new_lines A R ls l) ≡ all_targets R * term-count l
+  terms_given : (l : Line) → sum_by term-count (new_lines A R ls l) ≡ all_targets R * term-count l
   unfolding new_line
-  terms-given (constant σ b) = none-given term-count (λ p. constant σ b) (λ p. refl) (range_with_len 0 (width R σ)) ∙ sym (mul-zero (all_targets R))
-  terms-given (both σ i j) = none-given term-count (λ p. both σ (place R ls i p) (place R ls j p)) (λ p. refl) (range_with_len 0 (width R σ)) ∙ sym (mul-zero (all_targets R))
-  terms-given (non σ i) = none-given term-count (λ p. non σ (place R ls i p)) (λ p. refl) (range_with_len 0 (width R σ)) ∙ sym (mul-zero (all_targets R))
-  terms-given (step a ms hs) = none-given term-count (new_step (A a) R ls a ms hs) (no-terms (A a) a ms hs) (range_with_len 0 R.states) ∙ sym (mul-zero (all_targets R))
-  terms-given (sum t ks) =
-      ap (sum_by term-count) (looked-up (λ mv. sum (t * R.mass) (cross (new_term R ls) ks mv)) [] (rows R))
+  terms_given (constant σ b) = none_given term-count (λ p. constant σ b) (λ p. refl) (range_with_len 0 (width R σ)) ∙ sym (mul-zero (all_targets R))
+  terms_given (both σ i j) = none_given term-count (λ p. both σ (place R ls i p) (place R ls j p)) (λ p. refl) (range_with_len 0 (width R σ)) ∙ sym (mul-zero (all_targets R))
+  terms_given (non σ i) = none_given term-count (λ p. non σ (place R ls i p)) (λ p. refl) (range_with_len 0 (width R σ)) ∙ sym (mul-zero (all_targets R))
+  terms_given (step a ms hs) = none_given term-count (new_step (A a) R ls a ms hs) (no-terms (A a) a ms hs) (range_with_len 0 R.states) ∙ sym (mul-zero (all_targets R))
+  terms_given (sum t ks) =
+      ap (sum_by term-count) (looked_up (λ mv. sum (t * R.mass) (cross (new_term R ls) ks mv)) [] (rows R))
       ∙ sum_by_map term-count (λ mv. sum (t * R.mass) (cross (new_term R ls) ks mv)) (rows R)
-      ∙ sumBy-eq (rows R) (λ mv. length-cross (new_term R ls) ks mv)
-      ∙ sumBy-mul (length ks) length (rows R)
-      ∙ ap (λ n. length ks * n) (rows-targets R)
+      ∙ sum_by_eq (rows R) (λ mv. length-cross (new_term R ls) ks mv)
+      ∙ sum_by_mul (length ks) length (rows R)
+      ∙ ap (λ n. length ks * n) (rows_targets R)
       ∙ mul_comm (length ks) (all_targets R)
 
-  pub terms-needed : length (term_table (quotient_lines A R ls)) ≡ length (term_table ls) * all_targets R
-  terms-needed =
+  pub terms_needed : length (term_table (quotient_lines A R ls)) ≡ length (term_table ls) * all_targets R
+  terms_needed =
       count-terms (quotient_lines A R ls)
       ∙ sum_by_joined term-count (new_lines A R ls) ls
-      ∙ sumBy-eq ls terms-given
-      ∙ sumBy-mul (all_targets R) term-count ls
+      ∙ sum_by_eq ls terms_given
+      ∙ sum_by_mul (all_targets R) term-count ls
       ∙ mul_comm (all_targets R) (sum_by term-count ls)
       ∙ ap (λ n. n * all_targets R) (sym (count-terms ls))
 
@@ -117,20 +117,20 @@ module _ (A : ℕ → Bool) (R : Meaning) (ls : List Line) where
       ∙ ap₂ ◌+◌ (length-map ms (λ d. place R ls d p) ∙ em) (crossed a p m h ms hs em eh)
 
   module _ (ts : List Term) (alts : List ℕ) (m i : ℕ) where
-    alternatives-given : (n : Node) → Right ts alts m i n → sum_by alternative-count (new_lines A R ls (line ts alts n)) ≡ alternative_need A R n
+    alternatives_given : (n : Node) → Right ts alts m i n → sum_by alternative-count (new_lines A R ls (line ts alts n)) ≡ alternative_need A R n
     unfolding new_line
-    alternatives-given (State sn.TheVariants.Yes) h = none-given alternative-count (λ p. constant state true) (λ p. refl) (range_with_len 0 R.states)
-    alternatives-given (State sn.TheVariants.No) h = none-given alternative-count (λ p. constant state false) (λ p. refl) (range_with_len 0 R.states)
-    alternatives-given (State (sn.TheVariants.And j k)) h = none-given alternative-count (λ p. both state (place R ls j p) (place R ls k p)) (λ p. refl) (range_with_len 0 R.states)
-    alternatives-given (State (sn.TheVariants.Not j)) h = none-given alternative-count (λ p. non state (place R ls j p)) (λ p. refl) (range_with_len 0 R.states)
-    alternatives-given (State (sn.TheVariants.Step a ms hs)) h =
+    alternatives_given (State sn.TheVariants.Yes) h = none_given alternative-count (λ p. constant state true) (λ p. refl) (range_with_len 0 R.states)
+    alternatives_given (State sn.TheVariants.No) h = none_given alternative-count (λ p. constant state false) (λ p. refl) (range_with_len 0 R.states)
+    alternatives_given (State (sn.TheVariants.And j k)) h = none_given alternative-count (λ p. both state (place R ls j p) (place R ls k p)) (λ p. refl) (range_with_len 0 R.states)
+    alternatives_given (State (sn.TheVariants.Not j)) h = none_given alternative-count (λ p. non state (place R ls j p)) (λ p. refl) (range_with_len 0 R.states)
+    alternatives_given (State (sn.TheVariants.Step a ms hs)) h =
         sum_by_map alternative-count (new_step (A a) R ls a (entries alts ms) (entries alts hs)) (range_with_len 0 R.states)
-        ∙ sumBy-eq (range_with_len 0 R.states) (λ p. step-alternatives (A a) a p ms.count hs.count (entries alts ms) (entries alts hs) (length-entries alts ms h.moves_within) (length-entries alts hs h.here_within))
-    alternatives-given (Dist dn.TheVariants.Yes) h = none-given alternative-count (λ p. constant dist true) (λ p. refl) (range_with_len 0 (length (rows R)))
-    alternatives-given (Dist dn.TheVariants.No) h = none-given alternative-count (λ p. constant dist false) (λ p. refl) (range_with_len 0 (length (rows R)))
-    alternatives-given (Dist (dn.TheVariants.And j k)) h = none-given alternative-count (λ p. both dist (place R ls j p) (place R ls k p)) (λ p. refl) (range_with_len 0 (length (rows R)))
-    alternatives-given (Dist (dn.TheVariants.Not j)) h = none-given alternative-count (λ p. non dist (place R ls j p)) (λ p. refl) (range_with_len 0 (length (rows R)))
-    alternatives-given (Dist (dn.TheVariants.Sum t r)) h = none-given alternative-count (new_line A R ls (sum t (entries ts r))) (λ p. refl) (range_with_len 0 (length (rows R)))
+        ∙ sum_by_eq (range_with_len 0 R.states) (λ p. step-alternatives (A a) a p ms.count hs.count (entries alts ms) (entries alts hs) (length-entries alts ms h.moves_within) (length-entries alts hs h.here_within))
+    alternatives_given (Dist dn.TheVariants.Yes) h = none_given alternative-count (λ p. constant dist true) (λ p. refl) (range_with_len 0 (length (rows R)))
+    alternatives_given (Dist dn.TheVariants.No) h = none_given alternative-count (λ p. constant dist false) (λ p. refl) (range_with_len 0 (length (rows R)))
+    alternatives_given (Dist (dn.TheVariants.And j k)) h = none_given alternative-count (λ p. both dist (place R ls j p) (place R ls k p)) (λ p. refl) (range_with_len 0 (length (rows R)))
+    alternatives_given (Dist (dn.TheVariants.Not j)) h = none_given alternative-count (λ p. non dist (place R ls j p)) (λ p. refl) (range_with_len 0 (length (rows R)))
+    alternatives_given (Dist (dn.TheVariants.Sum t r)) h = none_given alternative-count (new_line A R ls (sum t (entries ts r))) (λ p. refl) (range_with_len 0 (length (rows R)))
 
 pub alternatives_needed : (A : ℕ → Bool) (R : Meaning) (ns : List Node) (ts : List Term) (alts : List ℕ) (m : ℕ) → AllRight ns ts alts m → length (alternative_table (quotient_lines A R (lines ns ts alts))) ≡ sum_by (alternative_need A R) ns
 alternatives_needed A R ns ts alts m right =
@@ -138,4 +138,4 @@ alternatives_needed A R ns ts alts m right =
     count-alternatives (quotient_lines A R ls)
     ∙ sum_by_joined alternative-count (new_lines A R ls) ls
     ∙ sum_by_map (λ l. sum_by alternative-count (new_lines A R ls l)) (line ts alts) ns
-    ∙ sumBy-at (λ n. sum_by alternative-count (new_lines A R ls (line ts alts n))) (alternative_need A R) ns no_node (λ i h. alternatives-given A R ls ts alts m i (get_or ns i no_node) (right i no_node h))
+    ∙ sum_by_at (λ n. sum_by alternative-count (new_lines A R ls (line ts alts n))) (alternative_need A R) ns no_node (λ i h. alternatives_given A R ls ts alts m i (get_or ns i no_node) (right i no_node h))

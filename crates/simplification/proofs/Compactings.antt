@@ -97,8 +97,8 @@ module _ (s₀ : Slots) (P : Packed s₀) (to₀ : List ℕ)
   at-line : line s.terms s.alternatives (get_or s.nodes i blank_node) ≡ l
   at-line = line-here ls s₀ P.laid_out i h front s overlaid
 
-  pub compacting-fits : (n : ℕ) → i ≤ n → Fit (λ d. d < n) s.terms s.alternatives f.terms f.alternatives (get_or s.nodes i blank_node)
-  compacting-fits n top =
+  pub compacting_fits : (n : ℕ) → i ≤ n → Fit (λ d. d < n) s.terms s.alternatives f.terms f.alternatives (get_or s.nodes i blank_node)
+  compacting_fits n top =
       fit-here ls s₀ P.laid_out i h front s overlaid (λ d. d < n) (λ j g. omega arith) f.terms f.alternatives
       (omega (arith, S.front.term, overlaid.low_term)) (omega (arith, S.front.alternative, overlaid.low_alternative)) P.few_terms P.few_alternatives (P.formed i h)
 
@@ -129,8 +129,8 @@ module _ (s₀ : Slots) (P : Packed s₀) (to₀ : List ℕ)
         unread = λ j q. ap (λ xs. get_or xs j 0) r.numbers ∙ (get_or-set_other to i j f.nodes 0 (λ z. omega arith) ∙ S.unread j (omega arith));
       }
 
-  pub gone-turn : (f' : Fills) (s' : Slots) (to' : List ℕ) → (get_or to i 0 ≡ 1 → ⊥) → GoneAt f s to f' s' to' → Compacting keep ls s₀ to₀ (i + 1) f' s' to'
-  gone-turn f' s' to' tick r =
+  pub gone_turn : (f' : Fills) (s' : Slots) (to' : List ℕ) → (get_or to i 0 ≡ 1 → ⊥) → GoneAt f s to f' s' to' → Compacting keep ls s₀ to₀ (i + 1) f' s' to'
+  gone_turn f' s' to' tick r =
       let off : keep i ≡ false = ne_eqb (get_or to₀ i 0) 1 (λ z. tick (S.unread i (omega arith) ∙ z)) in
       let same : front ≡ compacted keep (take (i + 1) ls) = sym (next false off ∙ append-nil front) in
       record {

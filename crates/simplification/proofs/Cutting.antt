@@ -48,19 +48,19 @@ module _ (F : Formula) (o : Ordered F.lines) (r : F.root < length F.lines) (to :
       (cases_Bool (kept F j)))
       (cases_lt j (length to))
 
-  ticks-are : is_ticked to ≡ kept F
-  ticks-are = λ i j. ticked-is j i
+  ticks_are : is_ticked to ≡ kept F
+  ticks_are = λ i j. ticked-is j i
 
-  pub ticks-closed : (i : ℕ) → i < length F.lines → is_ticked to i ≡ true → AllByRecursion (λ j. is_ticked to j ≡ true) (parts (line_at F.lines i))
-  ticks-closed i h e =
+  pub ticks_closed : (i : ℕ) → i < length F.lines → is_ticked to i ≡ true → AllByRecursion (λ j. is_ticked to j ≡ true) (parts (line_at F.lines i))
+  ticks_closed i h e =
       All-weaker (λ j. (kept F j ≡ true) × (j < i)) (λ j. is_ticked to j ≡ true) (λ j q. ticked-is j ∙ q.0) (parts (line_at F.lines i)) (kept-parts F o i h (sym (ticked-is i) ∙ e))
 
   -- so what is compacted is the pruned formula
   pub compacted-is : compacted (is_ticked to) F.lines ≡ (prune F).lines
-  compacted-is = ap (λ (keep : ℕ → Bool). compacted keep F.lines) ticks-are
+  compacted-is = ap (λ (keep : ℕ → Bool). compacted keep F.lines) ticks_are
 
   pub root_is : (to' : List ℕ) → ((j : ℕ) → j < length F.lines → is_ticked to j ≡ true → get_or to' j 0 ≡ rank (is_ticked to) j) → get_or to' F.root 0 ≡ (prune F).root
-  root_is to' numbered = numbered F.root r (ticked-is F.root ∙ kept-root F) ∙ ap (λ (keep : ℕ → Bool). rank keep F.root) ticks-are
+  root_is to' numbered = numbered F.root r (ticked-is F.root ∙ kept-root F) ∙ ap (λ (keep : ℕ → Bool). rank keep F.root) ticks_are
 
 pub all_zero : (n j : ℕ) → ◌≡◌ {A = ℕ} (get_or (replicate n 0) j 0) 0
 all_zero n j =

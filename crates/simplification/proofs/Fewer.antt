@@ -9,7 +9,7 @@ use Rattle.simplification.specs.Simplify.{coefficients, Tone, yes, no, neither, 
 use Rattle.simplification.specs.Laws.{FillsLaw}
 use Rattle.simplification.specs.Settling.{both_left, leaves, left_lines}
 use Rattle.simplification.proofs.Outcomes.{Ordered, outcome, lines-length}
-use Rattle.simplification.proofs.Prune.{rank-small, pruned-length}
+use Rattle.simplification.proofs.Prune.{rank-small, pruned_length}
 use Rattle.simplification.proofs.Forms.{fitting_ordered}
 use Rattle.simplification.proofs.Leaving.{simplify-left}
 use Rattle.simplification.proofs.Laid.{table-shorter, table-compact}
@@ -112,7 +112,7 @@ fewer F w =
     let G : Formula = record { lines = left_lines ls; root = (E F.root).to } in
     let is = ap (λ (x : Formula). x.lines) (simplify-left ls F.root o w.root.before) in
     record {
-      nodes = omega (arith, pruned-length (settle F), rank-small (kept (settle F)) (length (settle F).lines), lines-length ls);
+      nodes = omega (arith, pruned_length (settle F), rank-small (kept (settle F)) (length (settle F).lines), lines-length ls);
       terms = omega (arith, ap (λ xs. length (term_table xs)) is, compact-terms (kept G) (place G) 0 (left_lines ls), left-terms E ls);
       alternatives = omega (arith, ap (λ xs. length (alternative_table xs)) is, compact-alternatives (kept G) (place G) 0 (left_lines ls), left-alternatives E ls);
     }

@@ -10,8 +10,8 @@ use Rattle.formulas.specs.WellFormed.{line_at, Part, Fits, Fitting, WellFormed, 
 use Rattle.simplification.specs.Simplify.{parts, coefficients, Outcome, is_neither, tone_of, retarget, settle, kept, place, renumber, prune, simplify}
 use Rattle.simplification.specs.Laws.{KeepsFormLaw, KeepsBoundsLaw}
 use Rattle.simplification.proofs.Lists.{all-front, all_back, all_both, all_of_map}
-use Rattle.simplification.proofs.Outcomes.{wants, Ordered, outcome, shrunk, shrunk-parts, shrunk-sort, shrunk-wants, Turn, settled, first, second, stays, placed, by-turns, lines_of, lines-length, lines_get}
-use Rattle.simplification.proofs.Prune.{kept-root, kept-parts, pruned-get, pruned-each, place-lt, place-within, renumber-parts, renumber-sort, renumber-wants}
+use Rattle.simplification.proofs.Outcomes.{wants, Ordered, outcome, shrunk, shrunk-parts, shrunk-sort, shrunk-wants, Turn, settled, first, second, stays, placed, by_turns, lines_of, lines-length, lines_get}
+use Rattle.simplification.proofs.Prune.{kept-root, kept-parts, pruned_get, pruned_each, place_lt, place-within, renumber-parts, renumber-sort, renumber-wants}
 
 -- a step's action is one of 32
 abbrev Acts : Line → Type 0
@@ -30,12 +30,12 @@ module _ (ls : List Line) (i : ℕ) where
   fits-parts (step a ms hs) h = All-append (Part ls i dist) ms hs h.1 h.2
   fits-parts (sum t ks) h = All-map (Part ls i state) (λ k. k.node) ks h
 
-  fits-acts : (l : Line) → Fits ls i l → Acts l
-  fits-acts (constant σ b) h = tt
-  fits-acts (both σ j k) h = tt
-  fits-acts (non σ j) h = tt
-  fits-acts (step a ms hs) h = h.0
-  fits-acts (sum t ks) h = tt
+  fits_acts : (l : Line) → Fits ls i l → Acts l
+  fits_acts (constant σ b) h = tt
+  fits_acts (both σ j k) h = tt
+  fits_acts (non σ j) h = tt
+  fits_acts (step a ms hs) h = h.0
+  fits_acts (sum t ks) h = tt
 
   fits-from : (l : Line) → Acts l → AllByRecursion (Part ls i (wants l)) (parts l) → Fits ls i l
   fits-from (constant σ b) a h = tt
@@ -69,23 +69,23 @@ abbrev Each : (Line → Type 0) → List Line → Type 0
 Each Q ls = (i : ℕ) → i < length ls → Q (line_at ls i)
 
 module _ (Q : Line → Type 0) (q : Lasting Q) where
-  turn-lasts : (n : ℕ) (E : ℕ → Outcome) (l : Line) (x : Outcome) → Turn n E l x → AllByRecursion (λ j. Q (E j).line) (parts l) → Q l → Q x.line
-  turn-lasts n E l x (settled b) h g = q.settles (sort l) b
-  turn-lasts n E l x first h g = h.0
-  turn-lasts n E l x second h g = h.1.0
-  turn-lasts n E l x (stays s) h g = q.shrinks E l g
+  turn_lasts : (n : ℕ) (E : ℕ → Outcome) (l : Line) (x : Outcome) → Turn n E l x → AllByRecursion (λ j. Q (E j).line) (parts l) → Q l → Q x.line
+  turn_lasts n E l x (settled b) h g = q.settles (sort l) b
+  turn_lasts n E l x first h g = h.0
+  turn_lasts n E l x second h g = h.1.0
+  turn_lasts n E l x (stays s) h g = q.shrinks E l g
 
-  settle-lasts : (F : Formula) → Ordered F.lines → Each Q F.lines → Each Q (settle F).lines
-  settle-lasts F o e i h =
+  settle_lasts : (F : Formula) → Ordered F.lines → Each Q F.lines → Each Q (settle F).lines
+  settle_lasts F o e i h =
       let ls : List Line = F.lines in
       subst Q (sym (lines_get ls i))
-      (by-turns ls o (λ n x. Q x.line)
-      (λ n g f x t. turn-lasts n (outcome ls) (line_at ls n) x t
+      (by_turns ls o (λ n x. Q x.line)
+      (λ n g f x t. turn_lasts n (outcome ls) (line_at ls n) x t
       (All-weaker (λ j. j < n) (λ j. Q (outcome ls j).line) (λ j k. (f j k).1) (parts (line_at ls n)) (o n g)) (e n g))
       i (omega (arith, lines-length ls)))
 
-  prune-lasts : (F : Formula) → Each Q F.lines → Each Q (prune F).lines
-  prune-lasts F e = pruned-each F (λ m l. Q l) (λ i h k. q.moves (place F) (line_at F.lines i) (e i h))
+  prune_lasts : (F : Formula) → Each Q F.lines → Each Q (prune F).lines
+  prune_lasts F e = pruned_each F (λ m l. Q l) (λ i h k. q.moves (place F) (line_at F.lines i) (e i h))
 
 acts_last : Lasting Acts
 acts_last = record { settles = λ σ b. tt; shrinks = shrinks; moves = moves }
@@ -129,7 +129,7 @@ abbrev sort-of : List Line → ℕ → Sort
 sort-of ls j = sort (outcome ls j).line
 
 kinds : (ls : List Line) → Fitting ls → (i : ℕ) → i < length ls → Kind (sort-of ls) (sort (line_at ls i)) (outcome ls i).line
-kinds ls f = by-turns ls (fitting_ordered ls f) (λ n x. Kind (sort-of ls) (sort (line_at ls n)) x.line) (λ n h g x t.
+kinds ls f = by_turns ls (fitting_ordered ls f) (λ n x. Kind (sort-of ls) (sort (line_at ls n)) x.line) (λ n h g x t.
     let l : Line = line_at ls n in
     let known : (j : ℕ) → Part ls n (wants l) j → Known (sort-of ls) (outcome ls) (wants l) j = λ j p.
     let r = g j p.before in
@@ -156,7 +156,7 @@ settle_form F w =
           (λ j r. record { before = omega (arith, r.0, q.near); sorted = ap sort (lines_get ls j) ∙ r.1 }) (parts (outcome ls i).line)
           (all_both (λ j. j < (outcome ls i).to) (λ j. sort-of ls j ≡ wants (outcome ls i).line) (parts (outcome ls i).line) q.below (kinds ls w.lines i g).right) in
           fits-from (lines_of ls) i (line_at (lines_of ls) i)
-          (settle-lasts Acts acts_last F o (λ j k. fits-acts ls j (line_at ls j) (w.lines j k)) i h)
+          (settle_lasts Acts acts_last F o (λ j k. fits_acts ls j (line_at ls j) (w.lines j k)) i h)
           (subst (λ (l : Line). AllByRecursion (Part (lines_of ls) i (wants l)) (parts l)) (sym (lines_get ls i)) fits);
       root = record {
         before = omega (arith, p.near, w.root.before, lines-length ls);
@@ -169,12 +169,12 @@ prune_form F w =
     let ls : List Line = F.lines in
     let o : Ordered ls = fitting_ordered ls w.lines in
     let moved : (j : ℕ) → j < length ls → kept F j ≡ true → sort (line_at (prune F).lines (place F j)) ≡ sort (line_at ls j) =
-    λ j h k. ap sort (pruned-get F j h k) ∙ renumber-sort (place F) (line_at ls j) in
+    λ j h k. ap sort (pruned_get F j h k) ∙ renumber-sort (place F) (line_at ls j) in
     let fits : (i : ℕ) → i < length ls → kept F i ≡ true → AllByRecursion (Part (prune F).lines (place F i) (wants (renumber (place F) (line_at ls i)))) (parts (renumber (place F) (line_at ls i))) =
     λ i h k. renumber-parts (place F) (Part (prune F).lines (place F i) (wants (renumber (place F) (line_at ls i)))) (line_at ls i)
     (All-weaker (λ j. ((kept F j ≡ true) × (j < i)) × Part ls i (wants (line_at ls i)) j) (λ j. Part (prune F).lines (place F i) (wants (renumber (place F) (line_at ls i))) (place F j))
     (λ j r. record {
-      before = place-lt F j i r.0.1 r.0.0;
+      before = place_lt F j i r.0.1 r.0.0;
       sorted = moved j (omega (arith, r.0.1)) r.0.0 ∙ (r.1.sorted ∙ sym (renumber-wants (place F) (line_at ls i)));
     })
     (parts (line_at ls i))
@@ -182,8 +182,8 @@ prune_form F w =
     record {
       lines = λ m h.
           fits-from (prune F).lines m (line_at (prune F).lines m)
-          (prune-lasts Acts acts_last F (λ j k. fits-acts ls j (line_at ls j) (w.lines j k)) m h)
-          (pruned-each F (λ n l. AllByRecursion (Part (prune F).lines n (wants l)) (parts l)) fits m h);
+          (prune_lasts Acts acts_last F (λ j k. fits_acts ls j (line_at ls j) (w.lines j k)) m h)
+          (pruned_each F (λ n l. AllByRecursion (Part (prune F).lines n (wants l)) (parts l)) fits m h);
       root = record {
         before = place-within F F.root w.root.before (kept-root F);
         sorted = moved F.root w.root.before (kept-root F) ∙ w.root.sorted;
@@ -232,5 +232,5 @@ bounds_last m = record { settles = λ σ b. tt; shrinks = shrinks; moves = moves
 pub keeps_bounds : KeepsBoundsLaw
 keeps_bounds m F w h =
     All-from_get_or (Bounded m) (simplify F).lines (constant state true)
-    (prune-lasts (Bounded m) (bounds_last m) (settle F)
-    (settle-lasts (Bounded m) (bounds_last m) F (fitting_ordered F.lines w.lines) (λ i k. All-get_or (Bounded m) F.lines i (constant state true) k h)))
+    (prune_lasts (Bounded m) (bounds_last m) (settle F)
+    (settle_lasts (Bounded m) (bounds_last m) F (fitting_ordered F.lines w.lines) (λ i k. All-get_or (Bounded m) F.lines i (constant state true) k h)))

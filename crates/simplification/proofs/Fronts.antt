@@ -89,8 +89,8 @@ module _ (f : Fills) (root m : ℕ) (s : Slots) (held : stands_in f root m s ≡
             alternatives = room.alternatives;
           }
 
-      fills-are : fills F.lines ≡ f
-      fills-are =
+      fills_are : fills F.lines ≡ f
+      fills_are =
           let laid = layout ns ts alts root m room.stand in
           let n : length F.lines ≡ f.nodes = length-map ns (line ts alts) ∙ used-nodes in
           let t : length (term_table F.lines) ≡ f.terms = ap length laid.1 ∙ used-terms in
@@ -98,7 +98,7 @@ module _ (f : Fills) (root m : ℕ) (s : Slots) (held : stands_in f root m s ≡
           λ i. record { nodes = n i; terms = t i; alternatives = a i }
 
       pub no_more : (x : Standing) → x ≡ standing (simplify F) → Fewer x.fills f
-      no_more x e = subst (Fewer x.fills) fills-are (subst (λ (y : Standing). Fewer y.fills (fills F.lines)) (sym e) (fewer F formed))
+      no_more x e = subst (Fewer x.fills) fills_are (subst (λ (y : Standing). Fewer y.fills (fills F.lines)) (sym e) (fewer F formed))
 
     take-renewed : {X : Type 0} (n k : ℕ) (blank : X) (new old : List X) → k ≡ length new → take k (renewed n blank new old) ≡ new
     take-renewed n k blank new old e =
@@ -114,9 +114,9 @@ module _ (f : Fills) (root m : ℕ) (s : Slots) (held : stands_in f root m s ≡
         let ls : lines_in (fills L) (taken_up G f d).tables ≡ L = (λ i. lines (n i) (t i) (a i)) ∙ same L in
         λ i. record { lines = ls i; root = G.root }
 
-    pub settles-in : LinesLaw → (to : List ℕ) (x : Standing) (d : Desk) → x ≡ standing (simplify F) → d ≡ taken_up (simplify F) f (desk s to)
+    pub settles_in : LinesLaw → (to : List ℕ) (x : Standing) (d : Desk) → x ≡ standing (simplify F) → d ≡ taken_up (simplify F) f (desk s to)
         → Settles (formula_at x.fills x.root d.tables)
-    settles-in same to x d e q =
+    settles_in same to x d e q =
         let here = (λ i. formula_at (e i).fills (e i).root (q i).tables) ∙ read_back same (simplify F) (desk s to) in
         subst Settles (sym here) (settles F formed)
 

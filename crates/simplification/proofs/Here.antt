@@ -11,7 +11,7 @@ use Rattle.formulas.specs.Tables.{Slots, laid}
 use Rattle.formulas.specs.WellFormed.{line_at}
 use Rattle.simplification.specs.Tables.{blank_node}
 use Rattle.simplification.specs.Moving.{Fit}
-use Rattle.simplification.proofs.Puts.{drop-over, getD-past-over, length_over}
+use Rattle.simplification.proofs.Puts.{drop-over, get_or_past_over, length_over}
 use Rattle.simplification.proofs.Laid.{table_at, table-within, length-nodes, node_at, part-front, part-back, line-of_node}
 
 -- where the terms and alternatives of line i begin
@@ -69,25 +69,25 @@ module _ (ls : List Line) (old : Slots) (B : laid ls old ≡ old) (i : ℕ) (h :
   abbrev l : Line
   l = line_at ls i
 
-  t-end : T + length (terms_in l) ≤ length old.terms
-  t-end =
+  t_end : T + length (terms_in l) ≤ length old.terms
+  t_end =
       omega (arith, table-within terms_in term_table refl (λ x xs. refl) ls i h, ap (λ s. length s.terms) B, length-append (term_table ls) (drop (length (term_table ls)) old.terms))
 
-  a-end : A + length (alternatives_in l) ≤ length old.alternatives
-  a-end =
+  a_end : A + length (alternatives_in l) ≤ length old.alternatives
+  a_end =
       omega (arith, table-within alternatives_in alternative_table refl (λ x xs. refl) ls i h, ap (λ s. length s.alternatives) B, length-append (alternative_table ls) (drop (length (alternative_table ls)) old.alternatives))
 
   terms-long : length new.terms ≡ length old.terms
-  terms-long = ap (λ s. length s.terms) V.tables ∙ length_over (term_table xs) old.terms (omega (arith, V.low_term, t-end))
+  terms-long = ap (λ s. length s.terms) V.tables ∙ length_over (term_table xs) old.terms (omega (arith, V.low_term, t_end))
 
   alternatives-long : length new.alternatives ≡ length old.alternatives
-  alternatives-long = ap (λ s. length s.alternatives) V.tables ∙ length_over (alternative_table xs) old.alternatives (omega (arith, V.low_alternative, a-end))
+  alternatives-long = ap (λ s. length s.alternatives) V.tables ∙ length_over (alternative_table xs) old.alternatives (omega (arith, V.low_alternative, a_end))
 
   terms-fit : T + length (terms_in l) ≤ length new.terms
-  terms-fit = omega (arith, t-end, terms-long)
+  terms-fit = omega (arith, t_end, terms-long)
 
   alternatives-fit : A + length (alternatives_in l) ≤ length new.alternatives
-  alternatives-fit = omega (arith, a-end, alternatives-long)
+  alternatives-fit = omega (arith, a_end, alternatives-long)
 
   terms-here : part new.terms T (length (terms_in l)) ≡ terms_in l
   terms-here =
@@ -106,7 +106,7 @@ module _ (ls : List Line) (old : Slots) (B : laid ls old ≡ old) (i : ℕ) (h :
   node-here : get_or new.nodes i blank_node ≡ node T A l
   node-here =
       ap (λ s. get_or s.nodes i blank_node) V.tables
-      ∙ (getD-past-over i (node_table 0 0 xs) old.nodes blank_node (omega (arith, V.low, length-nodes 0 0 xs))
+      ∙ (get_or_past_over i (node_table 0 0 xs) old.nodes blank_node (omega (arith, V.low, length-nodes 0 0 xs))
       ∙ (ap (λ s. get_or s.nodes i blank_node) (sym B)
       ∙ (get_or_append_left (node_table 0 0 ls) (drop (length (node_table 0 0 ls)) old.nodes) blank_node i (omega (arith, length-nodes 0 0 ls))
       ∙ node_at 0 0 T A ls i blank_node h (omega arith) (omega arith))))

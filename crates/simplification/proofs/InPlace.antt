@@ -6,7 +6,7 @@ use Rattle.std.proofs.lemmas.List.{take_more, drop_more}
 use Rattle.formulas.specs.Lines.{state, Line, constant, Formula}
 use Rattle.formulas.specs.WellFormed.{line_at}
 use Rattle.simplification.specs.Simplify.{parts, Outcome, member, reached, kept, rank, place, renumber, compact, prune, settle, simplify}
-use Rattle.simplification.proofs.Outcomes.{Ordered, outcome, shrunk-parts, Turn, settled, first, second, stays, placed, by-turns, lines-length, lines_get}
+use Rattle.simplification.proofs.Outcomes.{Ordered, outcome, shrunk-parts, Turn, settled, first, second, stays, placed, by_turns, lines-length, lines_get}
 use Rattle.simplification.proofs.Prune.{member_back, kept-only, compact-length}
 
 -- the parts of what lines become stand for themselves
@@ -18,7 +18,7 @@ turn_fixed n E l x second h s = h.1.0
 turn_fixed n E l x (stays t) h s = shrunk-parts E (λ k. (E k).to ≡ k) l s
 
 fixed : (ls : List Line) → Ordered ls → (i : ℕ) → i < length ls → AllByRecursion (λ k. (outcome ls k).to ≡ k) (parts (outcome ls i).line)
-fixed ls o = by-turns ls o (λ n x. AllByRecursion (λ k. (outcome ls k).to ≡ k) (parts x.line)) (λ n h f x t.
+fixed ls o = by_turns ls o (λ n x. AllByRecursion (λ k. (outcome ls k).to ≡ k) (parts x.line)) (λ n h f x t.
     let l : Line = line_at ls n in
     turn_fixed n (outcome ls) l x t
     (All-weaker (λ j. j < n) (λ j. AllByRecursion (λ k. (outcome ls k).to ≡ k) (parts (outcome ls j).line)) (λ j k. (f j k).1) (parts l) (o n h))

@@ -7,7 +7,7 @@ use Rattle.formulas.specs.declared.node.Run.{Run}
 use Rattle.formulas.specs.declared.node.Term.{Term}
 use Rattle.formulas.specs.Lines.{entries}
 use Rattle.simplification.specs.Simplify.{Tone, yes, no, neither, Outcome, tone_of, is_yes, is_no, is_neither, coefficients, retarget, terms_left, yes_part}
-use Rattle.simplification.proofs.Puts.{Moving, moving-low, moving-at, moving-read, moving-take, moving-skip}
+use Rattle.simplification.proofs.Puts.{Moving, moving-low, moving-at, moving-read, moving-take, moving_skip}
 
 -- a loop over the run r, from the table xs into ys, at entry k
 module _ {X : Type 0} (f : X → Bool) (g : X → X) (xs ys : List X) (r : Run) (s k w : ℕ) (m : Moving f g xs ys r.first s k w)
@@ -30,9 +30,9 @@ module _ {X : Type 0} (f : X → Bool) (g : X → X) (xs ys : List X) (r : Run) 
       let m' = moving-take f g xs r.first s ys k w m past inside d y (ap f (sym (entry-same d)) ∙ t) (v ∙ ap g (entry-same d)) in
       record { is = e ∙ m'.is; end = q ∙ m'.end }
 
-  pub turn-skip : (d : X) (ys' : List X) (w' : ℕ) → f (get_or ys (r.first + k) d) ≡ false → ys' ≡ ys → w' ≡ w → Moving f g xs ys' r.first s (k + 1) w'
-  turn-skip d ys' w' t e q =
-      let m' = moving-skip f g xs r.first s ys k w m past inside d (ap f (sym (entry-same d)) ∙ t) in
+  pub turn_skip : (d : X) (ys' : List X) (w' : ℕ) → f (get_or ys (r.first + k) d) ≡ false → ys' ≡ ys → w' ≡ w → Moving f g xs ys' r.first s (k + 1) w'
+  turn_skip d ys' w' t e q =
+      let m' = moving_skip f g xs r.first s ys k w m past inside d (ap f (sym (entry-same d)) ∙ t) in
       record { is = e ∙ m'.is; end = q ∙ m'.end }
 
 -- sums over what is kept
@@ -41,9 +41,9 @@ module _ {X : Type 0} (f : X → Bool) (c : X → ℕ) where
   one true x = omega (arith, sum_by-cons c x [])
   one false x = refl
 
-  kept-sum-more : (xs : List X) (i : ℕ) (d : X) → i < length xs
+  kept_sum_more : (xs : List X) (i : ℕ) (d : X) → i < length xs
       → sum_by c (filter f (take (i + 1) xs)) ≡ sum_by c (filter f (take i xs)) + cond (f (get_or xs i d)) (c (get_or xs i d)) 0
-  kept-sum-more xs i d h =
+  kept_sum_more xs i d h =
       ap (sum_by c) (filter_more f xs i d h)
       ∙ (sum_by-append c (filter f (take i xs)) (cond (f (get_or xs i d)) (get_or xs i d ∷ []) [])
       ∙ ap (λ n. sum_by c (filter f (take i xs)) + n) (one (f (get_or xs i d)) (get_or xs i d)))
@@ -68,12 +68,12 @@ module _ (E : ℕ → Outcome) (t : ℕ) (ks : List Term) (i low lack : ℕ) (w 
   left_is : (n : ℕ) → coefficients (terms_left E (take n ks)) ≡ sum_by (λ k. k.coefficient) (filter (λ k. is_neither (tone_of E k.node)) (take n ks))
   left_is n = sum_by_map (λ k. k.coefficient) (retarget (λ j. (E j).to)) (filter (λ k. is_neither (tone_of E k.node)) (take n ks))
 
-  pub weighing-more : (low' lack' : ℕ) → low' ≡ low - cond (is_yes (tone_of E (get_or ks i d).node)) (get_or ks i d).coefficient 0
+  pub weighing_more : (low' lack' : ℕ) → low' ≡ low - cond (is_yes (tone_of E (get_or ks i d).node)) (get_or ks i d).coefficient 0
       → lack' ≡ lack - cond (is_no (tone_of E (get_or ks i d).node)) 0 (get_or ks i d).coefficient → Weighing E t ks (i + 1) low' lack'
-  weighing-more low' lack' p q = record {
-    threshold = omega (arith, p, w.threshold, kept-sum-more (λ k. is_yes (tone_of E k.node)) (λ k. k.coefficient) ks i d h);
+  weighing_more low' lack' p q = record {
+    threshold = omega (arith, p, w.threshold, kept_sum_more (λ k. is_yes (tone_of E k.node)) (λ k. k.coefficient) ks i d h);
     lack =
         lacking (tone_of E (get_or ks i d).node) (get_or ks i d).coefficient low low' lack lack'
         (coefficients (terms_left E (take i ks))) (coefficients (terms_left E (take (i + 1) ks))) w.lack p q
-        (omega (arith, left_is i, left_is (i + 1), kept-sum-more (λ k. is_neither (tone_of E k.node)) (λ k. k.coefficient) ks i d h));
+        (omega (arith, left_is i, left_is (i + 1), kept_sum_more (λ k. is_neither (tone_of E k.node)) (λ k. k.coefficient) ks i d h));
   }

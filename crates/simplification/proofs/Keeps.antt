@@ -10,7 +10,7 @@ use Rattle.simplification.specs.Simplify.{parts, Outcome, became, settle, kept, 
 use Rattle.simplification.specs.Laws.{Whole, Weighed, WeighedLaw, KeepsTruthLaw}
 use Rattle.simplification.proofs.Lists.{all_both, strong}
 use Rattle.simplification.proofs.Outcomes.{wants, Ordered, outcome, outcome-at, placed, lines_of, lines-length, lines_get}
-use Rattle.simplification.proofs.Prune.{kept-root, kept-parts, pruned-get, place-within}
+use Rattle.simplification.proofs.Prune.{kept-root, kept-parts, pruned_get, place-within}
 use Rattle.simplification.proofs.Forms.{fits-parts, fitting_ordered, fitting_formed, keeps_sort, settle_form, keeps_form}
 use Rattle.simplification.proofs.Truths.{sees, Agree, agree-is, agree_trans, renumber-agrees, Fit, became-agrees}
 
@@ -85,7 +85,7 @@ module _ (course : CourseLaw) (S : Meaning) (g : Weighed S) where
       (All-weaker (λ j. ((kept F j ≡ true) × (j < n)) × Part ls n σ j) (λ j. Agree S σ (T j) (U (place F j)))
       (λ j r. subst (λ (τ : Sort). Agree S τ (T j) (U (place F j))) r.1.sorted (f j r.0.1 (omega (arith, r.0.1)) r.0.0)) (parts l)
       (all_both (λ j. (kept F j ≡ true) × (j < n)) (Part ls n σ) (parts l) (kept-parts F (fitting_ordered ls w.lines) n h k) (fits-parts ls n l (w.lines n h)))))
-      (agree-is S (sort l) (ap (sees S U) (sym (pruned-get F n h k)) ∙ sym (read (prune F).lines v (place F n) (place-within F n h k))))))
+      (agree-is S (sort l) (ap (sees S U) (sym (pruned_get F n h k)) ∙ sym (read (prune F).lines v (place F n) (place-within F n h k))))))
     where
       ls : List Line
       ls = F.lines

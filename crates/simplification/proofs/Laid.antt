@@ -14,7 +14,7 @@ use Rattle.simplification.specs.Simplify.{tone, parts, renumber, compact}
 use Rattle.simplification.proofs.Lists.{all-front, all_back, all_of_map}
 use Rattle.simplification.specs.Moving.{put, LaidAt}
 use Rattle.simplification.proofs.Outcomes.{Ordered}
-use Rattle.simplification.proofs.Puts.{over-set, over-more}
+use Rattle.simplification.proofs.Puts.{over_set, over-more}
 
 -- a table that is made of the entries of each line in turn
 module _ {X : Type 0} (f : Line → List X) (F : List Line → List X) (nil : F [] ≡ []) (cons : (l : Line) (ls : List Line) → F (l ∷ ls) ≡ f l ++ F ls) where
@@ -23,8 +23,8 @@ module _ {X : Type 0} (f : Line → List X) (F : List Line → List X) (nil : F 
   table-append (x ∷ xs) ys =
       cons x (xs ++ ys) ∙ (ap (λ r. f x ++ r) (table-append xs ys) ∙ (sym (append_assoc (f x) (F xs) (F ys)) ∙ ap (λ r. r ++ F ys) (sym (cons x xs))))
 
-  table-push : (ls : List Line) (l : Line) → F (ls ++ (l ∷ [])) ≡ F ls ++ f l
-  table-push ls l = table-append ls (l ∷ []) ∙ ap (λ r. F ls ++ r) (cons l [] ∙ (ap (λ r. f l ++ r) nil ∙ append-nil (f l)))
+  table_push : (ls : List Line) (l : Line) → F (ls ++ (l ∷ [])) ≡ F ls ++ f l
+  table_push ls l = table-append ls (l ∷ []) ∙ ap (λ r. F ls ++ r) (cons l [] ∙ (ap (λ r. f l ++ r) nil ∙ append-nil (f l)))
 
   -- the entries of line i follow those of the lines before it
   pub table_at : (ls : List Line) (i : ℕ) (rest : List X) → i < length ls
@@ -106,13 +106,13 @@ pub front_push : (old : Slots) (ls : List Line) (l l' : Line) (w t a : ℕ) (s s
 front_push old ls l l' w t a s s' n t' a' F lw h same ns L =
     let S = F.tables in
     let count : length (node_table 0 0 ls) ≡ w = length-nodes 0 0 ls ∙ lw in
-    let terms-push : term_table ls ++ terms_in l ≡ term_table (ls ++ (l ∷ [])) = sym (table-push terms_in term_table refl (λ x xs. refl) ls l) in
-    let alternatives-push : alternative_table ls ++ alternatives_in l ≡ alternative_table (ls ++ (l ∷ [])) = sym (table-push alternatives_in alternative_table refl (λ x xs. refl) ls l) in
+    let terms-push : term_table ls ++ terms_in l ≡ term_table (ls ++ (l ∷ [])) = sym (table_push terms_in term_table refl (λ x xs. refl) ls l) in
+    let alternatives-push : alternative_table ls ++ alternatives_in l ≡ alternative_table (ls ++ (l ∷ [])) = sym (table_push alternatives_in alternative_table refl (λ x xs. refl) ls l) in
     let nodes : s'.nodes ≡ over (node_table 0 0 (ls ++ (l ∷ []))) old.nodes =
     ns
     ∙ (ap (set s.nodes w) (L.is ∙ ap (node t a) same)
     ∙ (ap₂ (λ (x : Slots) (k : ℕ). set x.nodes k (node t a l)) S (sym count)
-    ∙ (over-set (node_table 0 0 ls) old.nodes (node t a l) (omega (arith, count))
+    ∙ (over_set (node_table 0 0 ls) old.nodes (node t a l) (omega (arith, count))
     ∙ ap (λ xs. over xs old.nodes) (sym (nodes_push 0 0 t a ls l (omega (arith, F.term)) (omega (arith, F.alternative))))))) in
     let terms : s'.terms ≡ over (term_table (ls ++ (l ∷ []))) old.terms =
     L.terms

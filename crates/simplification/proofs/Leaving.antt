@@ -8,7 +8,7 @@ use Rattle.formulas.specs.Lines.{Sort, state, dist, Line, constant, both, non, s
 use Rattle.formulas.specs.WellFormed.{line_at}
 use Rattle.simplification.specs.Simplify.{parts, coefficients, Tone, yes, no, neither, tone, tone_of, is_yes, is_no, is_neither, Outcome, both_outcome, non_line, step_line, sum_line, alternatives_left, has_yes, retarget, terms_left, yes_part, became, prune, simplify}
 use Rattle.simplification.specs.Settling.{both_left, leaves, left_lines}
-use Rattle.simplification.proofs.Lists.{all-front, all_back, all_of_map, any_same, map-kept-same, kept_same}
+use Rattle.simplification.proofs.Lists.{all-front, all_back, all_of_map, any_same, map-kept_same, kept_same}
 use Rattle.simplification.proofs.Outcomes.{Ordered, outcome, outcome-at, placed, shrunk-parts}
 use Rattle.simplification.proofs.InPlace.{simplify_by}
 
@@ -20,7 +20,7 @@ module _ (E E' : ℕ → Outcome) where
 
   left-alike : (ds : List ℕ) → AllByRecursion Alike ds → alternatives_left E ds ≡ alternatives_left E' ds
   left-alike ds h =
-      map-kept-same (λ d. (E d).to) (λ d. (E' d).to) (λ d. not (is_no (tone_of E d))) (λ d. not (is_no (tone_of E' d))) ds
+      map-kept_same (λ d. (E d).to) (λ d. (E' d).to) (λ d. not (is_no (tone_of E d))) (λ d. not (is_no (tone_of E' d))) ds
       (All-weaker Alike (λ d. (not (is_no (tone_of E d)) ≡ not (is_no (tone_of E' d))) × ((E d).to ≡ (E' d).to))
       (λ d e. (ap (λ (o : Tone). not (is_no o)) e.same, e.number)) ds h)
 
@@ -31,7 +31,7 @@ module _ (E E' : ℕ → Outcome) where
 
   terms-alike : (ks : List Term) → AllByRecursion (λ k. Alike k.node) ks → terms_left E ks ≡ terms_left E' ks
   terms-alike ks h =
-      map-kept-same (retarget (λ j. (E j).to)) (retarget (λ j. (E' j).to)) (λ k. is_neither (tone_of E k.node)) (λ k. is_neither (tone_of E' k.node)) ks
+      map-kept_same (retarget (λ j. (E j).to)) (retarget (λ j. (E' j).to)) (λ k. is_neither (tone_of E k.node)) (λ k. is_neither (tone_of E' k.node)) ks
       (All-weaker (λ k. Alike k.node)
       (λ k. (is_neither (tone_of E k.node) ≡ is_neither (tone_of E' k.node)) × (retarget (λ j. (E j).to) k ≡ retarget (λ j. (E' j).to) k))
       (λ k e. (ap is_neither e.same, λ i. record { coefficient = k.coefficient; node = e.number i })) ks h)

@@ -23,11 +23,11 @@ module _ {X : Type 0} (P : X → Type 0) where
 
 -- a search: none before the place i passes
 module _ {X : Type 0} (p : X → Bool) (xs : List X) (i : ℕ) where
-  pub any-hit : (d : X) → any p xs ≡ any p (drop i xs) → i < length xs → p (get_or xs i d) ≡ true → true ≡ any p xs
-  any-hit d before h e = sym (before ∙ at_drop_more (any p) xs i d h ∙ ap (λ b. b || any p (drop (i + 1) xs)) e)
+  pub any_hit : (d : X) → any p xs ≡ any p (drop i xs) → i < length xs → p (get_or xs i d) ≡ true → true ≡ any p xs
+  any_hit d before h e = sym (before ∙ at_drop_more (any p) xs i d h ∙ ap (λ b. b || any p (drop (i + 1) xs)) e)
 
-  pub any-miss : (d : X) → any p xs ≡ any p (drop i xs) → i < length xs → p (get_or xs i d) ≡ false → any p xs ≡ any p (drop (i + 1) xs)
-  any-miss d before h e = before ∙ at_drop_more (any p) xs i d h ∙ ap (λ b. b || any p (drop (i + 1) xs)) e
+  pub any_miss : (d : X) → any p xs ≡ any p (drop i xs) → i < length xs → p (get_or xs i d) ≡ false → any p xs ≡ any p (drop (i + 1) xs)
+  any_miss d before h e = before ∙ at_drop_more (any p) xs i d h ∙ ap (λ b. b || any p (drop (i + 1) xs)) e
 
   pub any_none : any p xs ≡ any p (drop i xs) → length xs ≤ i → false ≡ any p xs
   any_none before h = sym (before ∙ at_drop_all (any p) xs i h)
@@ -83,10 +83,10 @@ module _ {X Y : Type 0} where
   map-cond f true x r = refl
   map-cond f false x r = refl
 
-  pub map-kept-same : (f g : X → Y) (p q : X → Bool) (xs : List X) → AllByRecursion (λ x. (p x ≡ q x) × (f x ≡ g x)) xs → map f (filter p xs) ≡ map g (filter q xs)
-  map-kept-same f g p q [] h = refl
-  map-kept-same f g p q (x ∷ xs) h =
-      let r = map-kept-same f g p q xs h.1 in
+  pub map-kept_same : (f g : X → Y) (p q : X → Bool) (xs : List X) → AllByRecursion (λ x. (p x ≡ q x) × (f x ≡ g x)) xs → map f (filter p xs) ≡ map g (filter q xs)
+  map-kept_same f g p q [] h = refl
+  map-kept_same f g p q (x ∷ xs) h =
+      let r = map-kept_same f g p q xs h.1 in
       map-cond f (p x) x (filter p xs)
       ∙ ((λ i. cond (h.0.0 i) (h.0.1 i ∷ r i) (r i))
       ∙ sym (map-cond g (q x) x (filter q xs)))

@@ -9,30 +9,30 @@ use Rattle.formulas.specs.Lines.{Sort, state, dist, Line, constant, both, non, s
 use Rattle.formulas.specs.WellFormed.{line_at}
 use Rattle.simplification.specs.Simplify.{parts, coefficients, Tone, yes, no, neither, tone, tone_of, is_yes, is_no, is_neither, Outcome, own, both_outcome, non_line, step_line, sum_line, alternatives_left, has_yes, retarget, terms_left, yes_part, became, blank, outcomes}
 use Rattle.std.proofs.lemmas.Bool.{eqb-false, ltb-false}
-use Rattle.simplification.proofs.Lists.{all-front, all_back, all_of_map, any_same, map-kept-same, kept_same, strong, grown-at, grown-length}
+use Rattle.simplification.proofs.Lists.{all-front, all_back, all_of_map, any_same, map-kept_same, kept_same, strong, grown-at, grown-length}
 
 -- what becomes of a line goes by what became of its parts
 module _ (E E' : ℕ → Outcome) where
   left-same : (ds : List ℕ) → AllByRecursion (λ j. E j ≡ E' j) ds → alternatives_left E ds ≡ alternatives_left E' ds
   left-same ds h =
-      map-kept-same (λ d. (E d).to) (λ d. (E' d).to) (λ d. not (is_no (tone_of E d))) (λ d. not (is_no (tone_of E' d))) ds
+      map-kept_same (λ d. (E d).to) (λ d. (E' d).to) (λ d. not (is_no (tone_of E d))) (λ d. not (is_no (tone_of E' d))) ds
       (All-weaker (λ j. E j ≡ E' j) (λ d. (not (is_no (tone_of E d)) ≡ not (is_no (tone_of E' d))) × ((E d).to ≡ (E' d).to))
       (λ d e. (ap (λ (o : Outcome). not (is_no (tone o.line))) e, ap (λ (o : Outcome). o.to) e)) ds h)
 
-  has-yes-same : (ds : List ℕ) → AllByRecursion (λ j. E j ≡ E' j) ds → has_yes E ds ≡ has_yes E' ds
-  has-yes-same ds h =
+  has_yes-same : (ds : List ℕ) → AllByRecursion (λ j. E j ≡ E' j) ds → has_yes E ds ≡ has_yes E' ds
+  has_yes-same ds h =
       any_same (λ d. is_yes (tone_of E d)) (λ d. is_yes (tone_of E' d)) ds
       (All-weaker (λ j. E j ≡ E' j) (λ d. is_yes (tone_of E d) ≡ is_yes (tone_of E' d)) (λ d e. ap (λ (o : Outcome). is_yes (tone o.line)) e) ds h)
 
   terms-same : (ks : List Term) → AllByRecursion (λ k. E k.node ≡ E' k.node) ks → terms_left E ks ≡ terms_left E' ks
   terms-same ks h =
-      map-kept-same (retarget (λ j. (E j).to)) (retarget (λ j. (E' j).to)) (λ k. is_neither (tone_of E k.node)) (λ k. is_neither (tone_of E' k.node)) ks
+      map-kept_same (retarget (λ j. (E j).to)) (retarget (λ j. (E' j).to)) (λ k. is_neither (tone_of E k.node)) (λ k. is_neither (tone_of E' k.node)) ks
       (All-weaker (λ k. E k.node ≡ E' k.node)
       (λ k. (is_neither (tone_of E k.node) ≡ is_neither (tone_of E' k.node)) × (retarget (λ j. (E j).to) k ≡ retarget (λ j. (E' j).to) k))
       (λ k e. (ap (λ (o : Outcome). is_neither (tone o.line)) e, λ i. record { coefficient = k.coefficient; node = (e i).to })) ks h)
 
-  yes-part-same : (ks : List Term) → AllByRecursion (λ k. E k.node ≡ E' k.node) ks → yes_part E ks ≡ yes_part E' ks
-  yes-part-same ks h =
+  yes_part-same : (ks : List Term) → AllByRecursion (λ k. E k.node ≡ E' k.node) ks → yes_part E ks ≡ yes_part E' ks
+  yes_part-same ks h =
       ap coefficients (kept_same (λ k. is_yes (tone_of E k.node)) (λ k. is_yes (tone_of E' k.node)) ks
       (All-weaker (λ k. E k.node ≡ E' k.node) (λ k. is_yes (tone_of E k.node) ≡ is_yes (tone_of E' k.node))
       (λ k e. ap (λ (o : Outcome). is_yes (tone o.line)) e) ks h))
@@ -44,12 +44,12 @@ module _ (E E' : ℕ → Outcome) where
   became-same n (step a ms hs) h =
       let m = left-same ms (all-front (λ j. E j ≡ E' j) ms hs h) in
       let e = left-same hs (all_back (λ j. E j ≡ E' j) ms hs h) in
-      let y = has-yes-same hs (all_back (λ j. E j ≡ E' j) ms hs h) in
+      let y = has_yes-same hs (all_back (λ j. E j ≡ E' j) ms hs h) in
       λ i. own n (cond (y i) (constant state true) (step_line a (m i) (e i)))
   became-same n (sum t ks) h =
       let g = all_of_map (λ j. E j ≡ E' j) (λ k. k.node) ks h in
       let k = terms-same ks g in
-      let y = yes-part-same ks g in
+      let y = yes_part-same ks g in
       λ i. own n (sum_line (t - y i) (k i))
 
 -- the sort that the parts of a line have
@@ -100,19 +100,19 @@ module _ (n : ℕ) (E : ℕ → Outcome) where
     second : {σ : Sort} {i j : ℕ} → Turn (both σ i j) (E j)
     stays : {l : Line} → Stays E l → Turn l (own n (shrunk E l))
 
-  both-turns : (σ : Sort) (i j : ℕ) (o p : Tone) → tone_of E i ≡ o → Turn (both σ i j) (both_outcome n σ o p (E i) (E j))
-  both-turns σ i j yes yes e = settled true
-  both-turns σ i j yes no e = settled false
-  both-turns σ i j yes neither e = second
-  both-turns σ i j no p e = settled false
-  both-turns σ i j neither yes e = first
-  both-turns σ i j neither no e = settled false
-  both-turns σ i j neither neither e = stays {l = both σ i j} e
+  both_turns : (σ : Sort) (i j : ℕ) (o p : Tone) → tone_of E i ≡ o → Turn (both σ i j) (both_outcome n σ o p (E i) (E j))
+  both_turns σ i j yes yes e = settled true
+  both_turns σ i j yes no e = settled false
+  both_turns σ i j yes neither e = second
+  both_turns σ i j no p e = settled false
+  both_turns σ i j neither yes e = first
+  both_turns σ i j neither no e = settled false
+  both_turns σ i j neither neither e = stays {l = both σ i j} e
 
-  non-turns : (σ : Sort) (i : ℕ) (o : Tone) → tone_of E i ≡ o → Turn (non σ i) (own n (non_line σ o (E i).to))
-  non-turns σ i yes e = settled false
-  non-turns σ i no e = settled true
-  non-turns σ i neither e = stays {l = non σ i} e
+  non_turns : (σ : Sort) (i : ℕ) (o : Tone) → tone_of E i ≡ o → Turn (non σ i) (own n (non_line σ o (E i).to))
+  non_turns σ i yes e = settled false
+  non_turns σ i no e = settled true
+  non_turns σ i neither e = stays {l = non σ i} e
 
   module _ (a : ℕ) (ms hs : List ℕ) where
     some_left : (ms' hs' : List ℕ) → has_yes E hs ≡ false → alternatives_left E ms ≡ ms' → alternatives_left E hs ≡ hs' → (ms' ++ hs' ≡ [] → ⊥)
@@ -120,26 +120,26 @@ module _ (n : ℕ) (E : ℕ → Outcome) where
     some_left ms' hs' e p q some =
         subst (Turn (step a ms hs)) (λ i. own n (step a (p i) (q i))) (stays {l = step a ms hs} (e, λ z. some (ap₂ ◌++◌ (sym p) (sym q) ∙ z)))
 
-    step-turns : (b : Bool) → has_yes E hs ≡ b → (ms' hs' : List ℕ) → alternatives_left E ms ≡ ms' → alternatives_left E hs ≡ hs'
+    step_turns : (b : Bool) → has_yes E hs ≡ b → (ms' hs' : List ℕ) → alternatives_left E ms ≡ ms' → alternatives_left E hs ≡ hs'
         → Turn (step a ms hs) (own n (cond b (constant state true) (step_line a ms' hs')))
-    step-turns true e ms' hs' p q = settled true
-    step-turns false e [] [] p q = settled false
-    step-turns false e [] (x ∷ hs') p q = some_left [] (x ∷ hs') e p q cons≢nil
-    step-turns false e (m ∷ ms') hs' p q = some_left (m ∷ ms') hs' e p q cons≢nil
+    step_turns true e ms' hs' p q = settled true
+    step_turns false e [] [] p q = settled false
+    step_turns false e [] (x ∷ hs') p q = some_left [] (x ∷ hs') e p q cons≢nil
+    step_turns false e (m ∷ ms') hs' p q = some_left (m ∷ ms') hs' e p q cons≢nil
 
-  sum-turns : (t : ℕ) (ks : List Term) (b c : Bool) → eqb (t - yes_part E ks) 0 ≡ b → ltb (coefficients (terms_left E ks)) (t - yes_part E ks) ≡ c
+  sum_turns : (t : ℕ) (ks : List Term) (b c : Bool) → eqb (t - yes_part E ks) 0 ≡ b → ltb (coefficients (terms_left E ks)) (t - yes_part E ks) ≡ c
       → Turn (sum t ks) (own n (cond b (constant dist true) (cond c (constant dist false) (sum (t - yes_part E ks) (terms_left E ks)))))
-  sum-turns t ks true c e f = settled true
-  sum-turns t ks false true e f = settled false
-  sum-turns t ks false false e f =
+  sum_turns t ks true c e f = settled true
+  sum_turns t ks false true e f = settled false
+  sum_turns t ks false false e f =
       stays {l = sum t ks} (eqb-false (t - yes_part E ks) 0 e, ltb-false (coefficients (terms_left E ks)) (t - yes_part E ks) f)
 
-  became-turns : (l : Line) → Turn l (became n E l)
-  became-turns (constant σ b) = settled b
-  became-turns (both σ i j) = both-turns σ i j (tone_of E i) (tone_of E j) refl
-  became-turns (non σ i) = non-turns σ i (tone_of E i) refl
-  became-turns (step a ms hs) = step-turns a ms hs (has_yes E hs) refl (alternatives_left E ms) (alternatives_left E hs) refl refl
-  became-turns (sum t ks) = sum-turns t ks (eqb (t - yes_part E ks) 0) (ltb (coefficients (terms_left E ks)) (t - yes_part E ks)) refl refl
+  became_turns : (l : Line) → Turn l (became n E l)
+  became_turns (constant σ b) = settled b
+  became_turns (both σ i j) = both_turns σ i j (tone_of E i) (tone_of E j) refl
+  became_turns (non σ i) = non_turns σ i (tone_of E i) refl
+  became_turns (step a ms hs) = step_turns a ms hs (has_yes E hs) refl (alternatives_left E ms) (alternatives_left E hs) refl refl
+  became_turns (sum t ks) = sum_turns t ks (eqb (t - yes_part E ks) 0) (ltb (coefficients (terms_left E ks)) (t - yes_part E ks)) refl refl
 
 -- what is left of the parts
 module _ (E : ℕ → Outcome) where
@@ -199,15 +199,15 @@ module _ (ls : List Line) (o : Ordered ls) where
   placed = strong (λ i. i < length ls → Placed (outcome ls) i (outcome ls i)) (λ n f h.
       let e = outcome-at ls o n h in
       subst (Placed (outcome ls) n) (sym e)
-      (turn-placed (outcome ls) n (line_at ls n) (became n (outcome ls) (line_at ls n)) (became-turns n (outcome ls) (line_at ls n)) (o n h) (λ j k. f j k (omega arith)) e))
+      (turn-placed (outcome ls) n (line_at ls n) (became n (outcome ls) (line_at ls n)) (became_turns n (outcome ls) (line_at ls n)) (o n h) (λ j k. f j k (omega arith)) e))
 
   -- what holds of what becomes of a line if it holds of what became of its parts
-  pub by-turns : (P : ℕ → Outcome → Type 0)
+  pub by_turns : (P : ℕ → Outcome → Type 0)
       → ((n : ℕ) → n < length ls → ((j : ℕ) → j < n → Placed (outcome ls) j (outcome ls j) × P j (outcome ls j)) → (x : Outcome) → Turn n (outcome ls) (line_at ls n) x → P n x)
       → (i : ℕ) → i < length ls → P i (outcome ls i)
-  by-turns P g = strong (λ i. i < length ls → P i (outcome ls i)) (λ n f h.
+  by_turns P g = strong (λ i. i < length ls → P i (outcome ls i)) (λ n f h.
       subst (P n) (sym (outcome-at ls o n h))
-      (g n h (λ j k. (placed j (omega arith), f j k (omega arith))) (became n (outcome ls) (line_at ls n)) (became-turns n (outcome ls) (line_at ls n))))
+      (g n h (λ j k. (placed j (omega arith), f j k (omega arith))) (became n (outcome ls) (line_at ls n)) (became_turns n (outcome ls) (line_at ls n))))
 
 -- the lines of what became
 abbrev pub lines_of : List Line → List Line

@@ -121,13 +121,13 @@ module _ (keep : ℕ → Bool) where
   rank-small zero = omega arith
   rank-small (suc i) = omega (arith, (rank_up i).1, rank-small i)
 
-  rank-on : (i k : ℕ) → rank keep i ≤ rank keep (k + i)
-  rank-on i zero = let e : i ≡ 0 + i = omega arith in subst (λ (x : ℕ). rank keep i ≤ rank keep x) e (omega arith)
-  rank-on i (suc k) =
-      subst (λ (x : ℕ). rank keep i ≤ rank keep x) (sym (suc-add k i)) (omega (arith, rank-on i k, (rank_up (k + i)).0))
+  rank_on : (i k : ℕ) → rank keep i ≤ rank keep (k + i)
+  rank_on i zero = let e : i ≡ 0 + i = omega arith in subst (λ (x : ℕ). rank keep i ≤ rank keep x) e (omega arith)
+  rank_on i (suc k) =
+      subst (λ (x : ℕ). rank keep i ≤ rank keep x) (sym (suc-add k i)) (omega (arith, rank_on i k, (rank_up (k + i)).0))
 
   rank-le : (i j : ℕ) → i ≤ j → rank keep i ≤ rank keep j
-  rank-le i j h = let e : (j - i) + i ≡ j = omega arith in subst (λ (x : ℕ). rank keep i ≤ rank keep x) e (rank-on i (j - i))
+  rank-le i j h = let e : (j - i) + i ≡ j = omega arith in subst (λ (x : ℕ). rank keep i ≤ rank keep x) e (rank_on i (j - i))
 
   rank_lt : (i j : ℕ) → i < j → keep i ≡ true → rank keep i < rank keep j
   rank_lt i j h k = omega (arith, rank-yes i k, rank-le (suc i) j h)
@@ -202,25 +202,25 @@ module _ (F : Formula) where
   pub kept-root : kept F F.root ≡ true
   kept-root = reached_grows 0 F.lines (F.root ∷ []) F.root (ap (λ (b : Bool). b || false) (eq-eqb F.root F.root refl))
 
-  pub pruned-get : (i : ℕ) → i < length F.lines → kept F i ≡ true → line_at (prune F).lines (place F i) ≡ renumber (place F) (line_at F.lines i)
-  pruned-get i h k = compact-at (kept F) (place F) F.lines 0 i i (place F i) (omega arith) h k (omega arith)
+  pub pruned_get : (i : ℕ) → i < length F.lines → kept F i ≡ true → line_at (prune F).lines (place F i) ≡ renumber (place F) (line_at F.lines i)
+  pruned_get i h k = compact-at (kept F) (place F) F.lines 0 i i (place F i) (omega arith) h k (omega arith)
 
-  pub pruned-length : length (prune F).lines ≡ place F (length F.lines)
-  pruned-length = omega (arith, compact-length (kept F) (place F) 0 F.lines (length F.lines) (omega arith))
+  pub pruned_length : length (prune F).lines ≡ place F (length F.lines)
+  pruned_length = omega (arith, compact-length (kept F) (place F) 0 F.lines (length F.lines) (omega arith))
 
-  pub place-lt : (i j : ℕ) → i < j → kept F i ≡ true → place F i < place F j
-  place-lt i j h k = rank_lt (kept F) i j h k
+  pub place_lt : (i j : ℕ) → i < j → kept F i ≡ true → place F i < place F j
+  place_lt i j h k = rank_lt (kept F) i j h k
 
   pub place-within : (i : ℕ) → i < length F.lines → kept F i ≡ true → place F i < length (prune F).lines
-  place-within i h k = omega (arith, pruned-length, place-lt i (length F.lines) h k)
+  place-within i h k = omega (arith, pruned_length, place_lt i (length F.lines) h k)
 
   -- what holds of every line that is kept, renumbered, holds of every line of the result
-  pub pruned-each : (P : ℕ → Line → Type 0) → ((i : ℕ) → i < length F.lines → kept F i ≡ true → P (place F i) (renumber (place F) (line_at F.lines i)))
+  pub pruned_each : (P : ℕ → Line → Type 0) → ((i : ℕ) → i < length F.lines → kept F i ≡ true → P (place F i) (renumber (place F) (line_at F.lines i)))
       → (m : ℕ) → m < length (prune F).lines → P m (line_at (prune F).lines m)
-  pruned-each P g m h =
-      let r = rank-back (kept F) (length F.lines) m (omega (arith, pruned-length)) in
+  pruned_each P g m h =
+      let r = rank-back (kept F) (length F.lines) m (omega (arith, pruned_length)) in
       subst (λ (x : ℕ). P x (line_at (prune F).lines x)) r.3
-      (subst (P (place F r.0)) (sym (pruned-get r.0 r.1 r.2)) (g r.0 r.1 r.2))
+      (subst (P (place F r.0)) (sym (pruned_get r.0 r.1 r.2)) (g r.0 r.1 r.2))
 
   module _ (o : Ordered F.lines) where
     -- the parts of a line that is kept are kept, and stand before it

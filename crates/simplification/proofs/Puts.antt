@@ -36,8 +36,8 @@ module _ {X : Type 0} where
   pub part-put : (p q n : ℕ) (new old : List X) → p ≤ length old → p + length new ≤ q → part (put p new old) q n ≡ part old q n
   part-put p q n new old h l = ap (take n) (drop-put p q new old h l)
 
-  getD-put : (p q : ℕ) (new old : List X) (d : X) → p ≤ length old → p + length new ≤ q → get_or (put p new old) q d ≡ get_or old q d
-  getD-put p q new old d h l =
+  get_or_put : (p q : ℕ) (new old : List X) (d : X) → p ≤ length old → p + length new ≤ q → get_or (put p new old) q d ≡ get_or old q d
+  get_or_put p q new old d h l =
       let at : (xs : List X) → get_or (drop q xs) 0 d ≡ get_or xs q d = λ xs. get_or-drop q xs 0 d ∙ ap (λ k. get_or xs k d) (add-zero q) in
       sym (at (put p new old)) ∙ (ap (λ xs. get_or xs 0 d) (drop-put p q new old h l) ∙ at old)
 
@@ -79,16 +79,16 @@ module _ {X : Type 0} where
   over-more front new old p s =
       ap (put p new) (over-is front old) ∙ (put-put 0 p front new old (omega arith) (omega arith) ∙ sym (over-is (front ++ new) old))
 
-  pub over-set : (front old : List X) (y : X) → length front < length old → set (over front old) (length front) y ≡ over (front ++ (y ∷ [])) old
-  over-set front old y h =
+  pub over_set : (front old : List X) (y : X) → length front < length old → set (over front old) (length front) y ≡ over (front ++ (y ∷ [])) old
+  over_set front old y h =
       let e : length front ≡ 0 + length front = omega arith in
       ap₂ (λ (xs : List X) (k : ℕ). set xs k y) (over-is front old) e ∙ (put-more 0 front old y (omega arith) ∙ sym (over-is (front ++ (y ∷ [])) old))
 
   pub drop-over : (q : ℕ) (front old : List X) → length front ≤ q → drop q (over front old) ≡ drop q old
   drop-over q front old h = ap (drop q) (over-is front old) ∙ drop-put 0 q front old (omega arith) (omega arith)
 
-  pub getD-past-over : (q : ℕ) (front old : List X) (d : X) → length front ≤ q → get_or (over front old) q d ≡ get_or old q d
-  getD-past-over q front old d h = ap (λ xs. get_or xs q d) (over-is front old) ∙ getD-put 0 q front old d (omega arith) (omega arith)
+  pub get_or_past_over : (q : ℕ) (front old : List X) (d : X) → length front ≤ q → get_or (over front old) q d ≡ get_or old q d
+  get_or_past_over q front old d h = ap (λ xs. get_or xs q d) (over-is front old) ∙ get_or_put 0 q front old d (omega arith) (omega arith)
 
   pub length_over : (front old : List X) → length front ≤ length old → length (over front old) ≡ length old
   length_over front old h = omega (arith, length-append front (drop (length front) old), length-drop (length front) old)
@@ -151,7 +151,7 @@ module _ {X : Type 0} (f : X → Bool) (g : X → X) (xs : List X) (p s : ℕ) w
     moving-low = omega (arith, few, m.end)
 
     pub moving-read : (d : X) → get_or ys (p + n) d ≡ get_or xs (p + n) d
-    moving-read d = ap (λ l. get_or l (p + n) d) m.is ∙ getD-put s (p + n) (map g (filter f (part xs p n))) xs d (omega arith) (omega (arith, few))
+    moving-read d = ap (λ l. get_or l (p + n) d) m.is ∙ get_or_put s (p + n) (map g (filter f (part xs p n))) xs d (omega arith) (omega (arith, few))
 
     pub moving-at : (P : X → Type 0) (d : X) (count : ℕ) → p + count ≤ length xs → n < count → AllByRecursion P (part xs p count) → P (get_or ys (p + n) d)
     moving-at P d count l b a =
@@ -173,8 +173,8 @@ module _ {X : Type 0} (f : X → Bool) (g : X → X) (xs : List X) (p s : ℕ) w
           end = omega (arith, m.end, ap length more, length_push old (g (get_or xs (p + n) d)));
         }
 
-    pub moving-skip : (d : X) → f (get_or xs (p + n) d) ≡ false → Moving f g xs ys p s (n + 1) w
-    moving-skip d e =
+    pub moving_skip : (d : X) → f (get_or xs (p + n) d) ≡ false → Moving f g xs ys p s (n + 1) w
+    moving_skip d e =
         let old = map g (filter f (part xs p n)) in
         let more = grows d false e ∙ append-nil old in
         record { is = m.is ∙ ap (λ l. put s l xs) (sym more); end = m.end ∙ ap (λ l. s + length l) (sym more) }

@@ -9,8 +9,8 @@ use Rattle.formulas.specs.WellFormed.{line_at, WellFormed}
 use Rattle.simplification.specs.Simplify.{parts, coefficients, Tone, yes, no, neither, tone, tone_of, is_yes, is_no, is_neither, Outcome, alternatives_left, has_yes, retarget, terms_left, settle, kept, place, renumber, prune}
 use Rattle.simplification.specs.Laws.{moving, only, SettlesLaw}
 use Rattle.simplification.proofs.Lists.{all_back, strong}
-use Rattle.simplification.proofs.Outcomes.{Ordered, outcome, shrunk, Stays, Turn, settled, first, second, stays, by-turns, lines-length, lines_get, lines-ordered}
-use Rattle.simplification.proofs.Prune.{kept-root, kept-parts, kept-only, rank-back, pruned-get, pruned-length, place-within}
+use Rattle.simplification.proofs.Outcomes.{Ordered, outcome, shrunk, Stays, Turn, settled, first, second, stays, by_turns, lines-length, lines_get, lines-ordered}
+use Rattle.simplification.proofs.Prune.{kept-root, kept-parts, kept-only, rank-back, pruned_get, pruned_length, place-within}
 use Rattle.simplification.proofs.Forms.{fitting_ordered, settle_form}
 
 abbrev Const : Tone → Type 0
@@ -46,9 +46,9 @@ module _ (E : ℕ → Outcome) where
       go no f e r = r e
       go neither f e r = (f, r e)
 
-  terms-open : (ks : List Term) → AllByRecursion Stable (map (λ k. k.node) ks) → AllByRecursion Open (map (λ k. k.node) (terms_left E ks))
-  terms-open [] h = tt
-  terms-open (k ∷ ks) h = go (tone_of E k.node) (back k.node h.0) (terms-open ks h.1)
+  terms_open : (ks : List Term) → AllByRecursion Stable (map (λ k. k.node) ks) → AllByRecursion Open (map (λ k. k.node) (terms_left E ks))
+  terms_open [] h = tt
+  terms_open (k ∷ ks) h = go (tone_of E k.node) (back k.node h.0) (terms_open ks h.1)
     where
       rest : List Term
       rest = filter (λ k. is_neither (tone_of E k.node)) ks
@@ -59,34 +59,34 @@ module _ (E : ℕ → Outcome) where
       go no f r = r
       go neither f r = (f, r)
 
-  step-live : (a : ℕ) (ms hs : List ℕ) → (ms ++ hs ≡ [] → ⊥) → AllByRecursion Open hs → Live (step a ms hs)
-  step-live a [] [] s o q c = s refl
-  step-live a [] (x ∷ hs) s o q c = o.0 c.0
-  step-live a (m ∷ ms) hs s o q c = absurd (true≢false q)
+  step_live : (a : ℕ) (ms hs : List ℕ) → (ms ++ hs ≡ [] → ⊥) → AllByRecursion Open hs → Live (step a ms hs)
+  step_live a [] [] s o q c = s refl
+  step_live a [] (x ∷ hs) s o q c = o.0 c.0
+  step_live a (m ∷ ms) hs s o q c = absurd (true≢false q)
 
-  sum-live : (t : ℕ) (ks : List Term) → (t ≡ 0 → ⊥) → t ≤ coefficients ks → AllByRecursion Open (map (λ k. k.node) ks) → Live (sum t ks)
-  sum-live t [] z e o q c = z (omega arith)
-  sum-live t (k ∷ ks) z e o q c = o.0 c.0
+  sum_live : (t : ℕ) (ks : List Term) → (t ≡ 0 → ⊥) → t ≤ coefficients ks → AllByRecursion Open (map (λ k. k.node) ks) → Live (sum t ks)
+  sum_live t [] z e o q c = z (omega arith)
+  sum_live t (k ∷ ks) z e o q c = o.0 c.0
 
-  stays-live : (l : Line) → Stays E l → AllByRecursion Stable (parts l) → Live (shrunk E l)
-  stays-live (constant σ b) s h q c = absurd s
-  stays-live (both σ i j) s h q c = subst Const s (back i h.0 c.0)
-  stays-live (non σ i) s h q c = subst Const s (back i h.0 c.0)
-  stays-live (step a ms hs) s h q c =
-      step-live a (alternatives_left E ms) (alternatives_left E hs) s.1 (left_open hs (all_back Stable ms hs h) s.0) q c
-  stays-live (sum t ks) s h q c = sum-live (t - _) (terms_left E ks) s.0 s.1 (terms-open ks h) q c
+  stays_live : (l : Line) → Stays E l → AllByRecursion Stable (parts l) → Live (shrunk E l)
+  stays_live (constant σ b) s h q c = absurd s
+  stays_live (both σ i j) s h q c = subst Const s (back i h.0 c.0)
+  stays_live (non σ i) s h q c = subst Const s (back i h.0 c.0)
+  stays_live (step a ms hs) s h q c =
+      step_live a (alternatives_left E ms) (alternatives_left E hs) s.1 (left_open hs (all_back Stable ms hs h) s.0) q c
+  stays_live (sum t ks) s h q c = sum_live (t - _) (terms_left E ks) s.0 s.1 (terms_open ks h) q c
 
-  turn-live : (n : ℕ) (l : Line) (x : Outcome) → Turn n E l x → AllByRecursion (λ j. Live (E j).line) (parts l) → AllByRecursion Stable (parts l) → Live x.line
-  turn-live n l x (settled true) h s q c = tt
-  turn-live n l x (settled false) h s q c = tt
-  turn-live n l x first h s q c = h.0 q c
-  turn-live n l x second h s q c = h.1.0 q c
-  turn-live n l x (stays t) h s q c = stays-live l t s q c
+  turn_live : (n : ℕ) (l : Line) (x : Outcome) → Turn n E l x → AllByRecursion (λ j. Live (E j).line) (parts l) → AllByRecursion Stable (parts l) → Live x.line
+  turn_live n l x (settled true) h s q c = tt
+  turn_live n l x (settled false) h s q c = tt
+  turn_live n l x first h s q c = h.0 q c
+  turn_live n l x second h s q c = h.1.0 q c
+  turn_live n l x (stays t) h s q c = stays_live l t s q c
 
 lives : (ls : List Line) → Ordered ls → (i : ℕ) → i < length ls → Live (outcome ls) (outcome ls i).line
-lives ls o = by-turns ls o (λ n x. Live (outcome ls) x.line) (λ n h f x t.
+lives ls o = by_turns ls o (λ n x. Live (outcome ls) x.line) (λ n h f x t.
     let l : Line = line_at ls n in
-    turn-live (outcome ls) n l x t
+    turn_live (outcome ls) n l x t
     (All-weaker (λ j. j < n) (λ j. Live (outcome ls) (outcome ls j).line) (λ j k. (f j k).1) (parts l) (o n h))
     (All-weaker (λ j. j < n) (λ j. outcome ls (outcome ls j).to ≡ outcome ls j) (λ j k. (f j k).0.stable) (parts l) (o n h)))
 
@@ -111,7 +111,7 @@ prune-alone F b h e =
     let lowest : place F F.root ≡ 0 = go (cases_lt 0 (place F F.root)) alone in
     let long : length (prune F).lines ≡ 1 = last (cases_lt 1 (length (prune F).lines)) alone lowest in
     let line : line_at (prune F).lines 0 ≡ constant state b =
-    ap (line_at (prune F).lines) (sym lowest) ∙ (pruned-get F F.root h (kept-root F) ∙ ap (renumber (place F)) e) in
+    ap (line_at (prune F).lines) (sym lowest) ∙ (pruned_get F F.root h (kept-root F) ∙ ap (renumber (place F)) e) in
     λ i. record { lines = one_line (prune F).lines (constant state b) long line i; root = lowest i }
   where
     go : (0 < place F F.root) ⊎ (place F F.root ≤ 0) → ((i : ℕ) → kept F i ≡ true → i ≡ F.root) → place F F.root ≡ 0
@@ -120,7 +120,7 @@ prune-alone F b h e =
 
     last : (1 < length (prune F).lines) ⊎ (length (prune F).lines ≤ 1) → ((i : ℕ) → kept F i ≡ true → i ≡ F.root) → place F F.root ≡ 0 → length (prune F).lines ≡ 1
     last (inl p) alone z =
-        let r = rank-back (kept F) (length F.lines) 1 (omega (arith, pruned-length F)) in
+        let r = rank-back (kept F) (length F.lines) 1 (omega (arith, pruned_length F)) in
         absurd (omega (arith, r.3, ap (place F) (alone r.0 r.2)))
     last (inr p) alone z = omega (arith, place-within F F.root h (kept-root F))
 
@@ -143,7 +143,7 @@ settles F w still =
     let l : Line = line_at G.lines n in
     let e : l ≡ (outcome ls n).line = lines_get ls n in
     let m : moving l ≡ false =
-    sym (moving-renumber (place G) l) ∙ (ap moving (sym (pruned-get G n h k)) ∙ still (place G n) (place-within G n h k)) in
+    sym (moving-renumber (place G) l) ∙ (ap moving (sym (pruned_get G n h k)) ∙ still (place G n) (place-within G n h k)) in
     let p : AllByRecursion (λ j. Const (tone_of (outcome ls) j)) (parts l) =
     All-weaker (λ j. (kept G j ≡ true) × (j < n)) (λ j. Const (tone_of (outcome ls) j)) (λ j x. f j x.1 (omega (arith, x.1)) x.0) (parts l)
     (kept-parts G (lines-ordered ls o) n h k) in

@@ -14,7 +14,7 @@ use Rattle.simplification.specs.Moving.{Fit}
 use Rattle.simplification.specs.Settling.{glance, leaves, Led, SettledAt, left_lines, left_numbers}
 use Rattle.simplification.proofs.Lists.{grown-length}
 use Rattle.simplification.proofs.Outcomes.{Ordered, outcome, outcome-at, Placed, placed}
-use Rattle.simplification.proofs.Puts.{over-set, length_over}
+use Rattle.simplification.proofs.Puts.{over_set, length_over}
 use Rattle.simplification.proofs.Laid.{length-nodes, node_at, tone-of_node, formed-ordered, AtFront, front_none, front_push}
 use Rattle.simplification.proofs.Here.{terms-before, alternatives-before, Overlaid, fit-here, line-here}
 use Rattle.simplification.proofs.Leaving.{Alike, leaves_alike, number-alike, left-own}
@@ -66,18 +66,18 @@ module _ (s₀ : Slots) (P : Packed s₀) (to₀ : List ℕ) (room : length s₀
   left-long : length left ≡ i
   left-long = ap length left_is ∙ (length-map (take i ls) (leaves O) ∙ length-take-le i ls (omega (arith, h)))
 
-  t-low : t ≤ T
-  t-low = omega (arith, S.front.term, ap (λ xs. length (term_table xs)) left_is, left-terms O (take i ls))
+  t_low : t ≤ T
+  t_low = omega (arith, S.front.term, ap (λ xs. length (term_table xs)) left_is, left-terms O (take i ls))
 
-  a-low : a ≤ A
-  a-low = omega (arith, S.front.alternative, ap (λ xs. length (alternative_table xs)) left_is, left-alternatives O (take i ls))
+  a_low : a ≤ A
+  a_low = omega (arith, S.front.alternative, ap (λ xs. length (alternative_table xs)) left_is, left-alternatives O (take i ls))
 
   overlaid : Overlaid ls i s₀ left s
   overlaid = record {
     tables = S.front.tables;
     low = omega (arith, left-long);
-    low_term = omega (arith, t-low, S.front.term);
-    low_alternative = omega (arith, a-low, S.front.alternative);
+    low_term = omega (arith, t_low, S.front.term);
+    low_alternative = omega (arith, a_low, S.front.alternative);
   }
 
   at-line : line s.terms s.alternatives (get_or s.nodes i blank_node) ≡ l
@@ -106,8 +106,8 @@ module _ (s₀ : Slots) (P : Packed s₀) (to₀ : List ℕ) (room : length s₀
   led : (j : ℕ) → j < i → Led s.nodes to j
   led j g = (omega (arith, numbers-long), omega (arith, number_at j g, (near j g).near, nodes-long))
 
-  pub settling-fits : Fit (Led s.nodes to) s.terms s.alternatives t a (get_or s.nodes i blank_node)
-  settling-fits = fit-here ls s₀ P.laid_out i h left s overlaid (Led s.nodes to) led t a t-low a-low P.few_terms P.few_alternatives (P.formed i h)
+  pub settling_fits : Fit (Led s.nodes to) s.terms s.alternatives t a (get_or s.nodes i blank_node)
+  settling_fits = fit-here ls s₀ P.laid_out i h left s overlaid (Led s.nodes to) led t a t_low a_low P.few_terms P.few_alternatives (P.formed i h)
 
   -- what is left of the lines before it has their tones
   alike : (j : ℕ) → j < i → Alike (glance s.nodes to) O j
@@ -159,7 +159,7 @@ module _ (s₀ : Slots) (P : Packed s₀) (to₀ : List ℕ) (room : length s₀
             r.numbers
             ∙ (ap₂ (λ (xs : List ℕ) (n : ℕ). set xs i n) S.numbers number
             ∙ (ap (λ k. set (over before to₀) k (O i).to) (sym blen)
-            ∙ (over-set before to₀ (O i).to (omega (arith, blen)) ∙ ap (λ xs. over xs to₀) (sym more))));
+            ∙ (over_set before to₀ (O i).to (omega (arith, blen)) ∙ ap (λ xs. over xs to₀) (sym more))));
       }
 
 pub settled : (s : Slots) (to : List ℕ) (i t a : ℕ) (s' : Slots) (to' : List ℕ) → Settling (all_lines s) s to i t a s' to' → length s.nodes ≤ i

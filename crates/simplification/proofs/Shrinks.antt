@@ -19,8 +19,8 @@ use Rattle.simplification.proofs.Leaving.{leaves-parts, simplify-left}
 use Rattle.simplification.proofs.Here.{as_it_is, line-here}
 
 module _ {X : Type 0} where
-  over-twice : (new old : List X) → over new (over new old) ≡ over new old
-  over-twice new old = ap (λ r. new ++ r) (drop_at new (drop (length new) old) (length new) refl)
+  over_twice : (new old : List X) → over new (over new old) ≡ over new old
+  over_twice new old = ap (λ r. new ++ r) (drop_at new (drop (length new) old) (length new) refl)
 
   -- what is over a list of the same length fits
   over-fits : (xs new old : List X) → xs ≡ over new old → length xs ≡ length old → length new ≤ length old
@@ -40,7 +40,7 @@ all_lines-laid ls s e =
     let full : t.nodes ≡ node_table 0 0 ls =
     ap (λ r. node_table 0 0 ls ++ r) (drop_all (length (node_table 0 0 ls)) s.nodes (omega (arith, length-nodes 0 0 ls))) ∙ append-nil (node_table 0 0 ls) in
     let long : length (all_lines t) ≡ length ls = length-map t.nodes (line t.terms t.alternatives) ∙ (ap length full ∙ length-nodes 0 0 ls) in
-    let twice : laid ls t ≡ t = λ i. slots (over-twice (node_table 0 0 ls) s.nodes i) (over-twice (term_table ls) s.terms i) (over-twice (alternative_table ls) s.alternatives i) in
+    let twice : laid ls t ≡ t = λ i. slots (over_twice (node_table 0 0 ls) s.nodes i) (over_twice (term_table ls) s.terms i) (over_twice (alternative_table ls) s.alternatives i) in
     ext_get_or (constant state true) (all_lines t) ls long (λ i h.
     get_or-map (line t.terms t.alternatives) t.nodes i blank_node (constant state true) (omega (arith, length-map t.nodes (line t.terms t.alternatives)))
     ∙ line-here ls t twice i (omega (arith, long)) [] t (as_it_is ls i t))
@@ -73,7 +73,7 @@ module _ (s : Slots) (P : Packed s) (s' : Slots) (S : s' ≡ laid (left_lines (a
       let L = left_lines ls in
       let twice : laid L s' ≡ s' =
       ap (laid L) S
-      ∙ ((λ i. slots (over-twice (node_table 0 0 L) s.nodes i) (over-twice (term_table L) s.terms i) (over-twice (alternative_table L) s.alternatives i)) ∙ sym S) in
+      ∙ ((λ i. slots (over_twice (node_table 0 0 L) s.nodes i) (over_twice (term_table L) s.terms i) (over_twice (alternative_table L) s.alternatives i)) ∙ sym S) in
       record {
         laid_out = ap (λ xs. laid xs s') lines_left ∙ twice;
         formed = subst Formed (sym lines_left) left-formed;

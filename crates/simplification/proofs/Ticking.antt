@@ -40,9 +40,9 @@ module _ (ls : List Line) (r : List ℕ) (i : ℕ) (h : i < length ls) where
   abbrev later : List ℕ
   later = reached (i + 1) (drop (i + 1) ls) r
 
-  pub ticks-turn : (m m' : List ℕ) → length ls ≡ length m → AllByRecursion (λ d. d < length m) (parts (line_at ls i)) → Ticks m later
+  pub ticks_turn : (m m' : List ℕ) → length ls ≡ length m → AllByRecursion (λ d. d < length m) (parts (line_at ls i)) → Ticks m later
       → m' ≡ cond (eqb (get_or m i 0) 1) (ticked m (parts (line_at ls i))) m → Ticks m' (reached i (drop i ls) r)
-  ticks-turn m m' s a k e = go (member i later) refl
+  ticks_turn m m' s a k e = go (member i later) refl
     where
       ps : List ℕ
       ps = parts (line_at ls i)

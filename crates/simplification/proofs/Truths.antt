@@ -165,29 +165,29 @@ module _ (S : Meaning) (g : Weighed S) (T T' : ℕ → Truth) (E : ℕ → Outco
     pub same : Agree S σ (T j) (sees S T' (E j).line)
     pub is : sort (E j).line ≡ σ
 
-  toned-at : (l : Line) (s : ℕ) → sort l ≡ state → Toned (tone l) ((sees S T' l).at s)
-  toned-at (constant state true) s e = refl
-  toned-at (constant state false) s e = refl
-  toned-at (constant dist b) s e = absurd (state≢dist (sym e))
-  toned-at (both σ i j) s e = tt
-  toned-at (non σ i) s e = tt
-  toned-at (step a ms hs) s e = tt
-  toned-at (sum t ks) s e = tt
+  toned_at : (l : Line) (s : ℕ) → sort l ≡ state → Toned (tone l) ((sees S T' l).at s)
+  toned_at (constant state true) s e = refl
+  toned_at (constant state false) s e = refl
+  toned_at (constant dist b) s e = absurd (state≢dist (sym e))
+  toned_at (both σ i j) s e = tt
+  toned_at (non σ i) s e = tt
+  toned_at (step a ms hs) s e = tt
+  toned_at (sum t ks) s e = tt
 
-  toned-of : (l : Line) (mv : Move) → sort l ≡ dist → Toned (tone l) ((sees S T' l).of mv)
-  toned-of (constant dist true) mv e = refl
-  toned-of (constant dist false) mv e = refl
-  toned-of (constant state b) mv e = absurd (state≢dist e)
-  toned-of (both σ i j) mv e = tt
-  toned-of (non σ i) mv e = tt
-  toned-of (step a ms hs) mv e = tt
-  toned-of (sum t ks) mv e = tt
+  toned_of : (l : Line) (mv : Move) → sort l ≡ dist → Toned (tone l) ((sees S T' l).of mv)
+  toned_of (constant dist true) mv e = refl
+  toned_of (constant dist false) mv e = refl
+  toned_of (constant state b) mv e = absurd (state≢dist e)
+  toned_of (both σ i j) mv e = tt
+  toned_of (non σ i) mv e = tt
+  toned_of (step a ms hs) mv e = tt
+  toned_of (sum t ks) mv e = tt
 
   at_part : (j : ℕ) → Fit state j → (s : ℕ) → Toned (tone_of E j) ((T j).at s)
-  at_part j f s = subst (Toned (tone_of E j)) (sym (f.same s)) (toned-at (E j).line s f.is)
+  at_part j f s = subst (Toned (tone_of E j)) (sym (f.same s)) (toned_at (E j).line s f.is)
 
   of_part : (j : ℕ) → Fit dist j → (mv : Move) → Whole S mv → Toned (tone_of E j) ((T j).of mv)
-  of_part j f mv w = subst (Toned (tone_of E j)) (sym (f.same mv w)) (toned-of (E j).line mv f.is)
+  of_part j f mv w = subst (Toned (tone_of E j)) (sym (f.same mv w)) (toned_of (E j).line mv f.is)
 
   -- a step
   module _ (mv : Move) (w : Whole S mv) where
@@ -218,10 +218,10 @@ module _ (S : Meaning) (g : Weighed S) (T T' : ℕ → Truth) (E : ℕ → Outco
   any_none [] = refl
   any_none (x ∷ xs) = any_none xs
 
-  step-line-at : (a : ℕ) (ms hs : List ℕ) (s : ℕ) → (sees S T' (step a ms hs)).at s ≡ (sees S T' (step_line a ms hs)).at s
-  step-line-at a [] [] s = ap (λ (x : Bool). x || false) (any_none (S.moves s a))
-  step-line-at a [] (x ∷ hs) s = refl
-  step-line-at a (m ∷ ms) hs s = refl
+  step-line_at : (a : ℕ) (ms hs : List ℕ) (s : ℕ) → (sees S T' (step a ms hs)).at s ≡ (sees S T' (step_line a ms hs)).at s
+  step-line_at a [] [] s = ap (λ (x : Bool). x || false) (any_none (S.moves s a))
+  step-line_at a [] (x ∷ hs) s = refl
+  step-line_at a (m ∷ ms) hs s = refl
 
   step-agrees : (a : ℕ) (ms hs : List ℕ) → AllByRecursion (Fit dist) ms → AllByRecursion (Fit dist) hs → (b : Bool) → has_yes E hs ≡ b → (s : ℕ)
       → (sees S T (step a ms hs)).at s ≡ (sees S T' (cond b (constant state true) (step_line a (alternatives_left E ms) (alternatives_left E hs)))).at s
@@ -233,7 +233,7 @@ module _ (S : Meaning) (g : Weighed S) (T T' : ℕ → Truth) (E : ℕ → Outco
       (any_same (λ mv. any (λ d. (T d).of mv) ms) (λ mv. any (λ d. (T' d).of mv) (alternatives_left E ms)) (S.moves s a)
       (All-weaker (Whole S) (λ mv. any (λ d. (T d).of mv) ms ≡ any (λ d. (T' d).of mv) (alternatives_left E ms)) (λ mv w. left-any mv w ms hm) (S.moves s a) (g.whole s a)))
       (left-any (point S s) (omega arith) hs hh)
-      ∙ step-line-at a (alternatives_left E ms) (alternatives_left E hs) s
+      ∙ step-line_at a (alternatives_left E ms) (alternatives_left E hs) s
 
   -- a sum
   module _ (mv : Move) (w : Whole S mv) where
@@ -263,15 +263,15 @@ module _ (S : Meaning) (g : Weighed S) (T T' : ℕ → Truth) (E : ℕ → Outco
             ap (λ (n : ℕ). k.coefficient * n) (weigh-same (T k.node).at (T' (E k.node).to).at h.0.there mv) in
             omega (arith, total-cons (λ j. (T j).at) k ks mv, total-cons (λ j. (T' j).at) (retarget (λ j. (E j).to) k) (map (retarget (λ j. (E j).to)) rest) mv)
 
-    sum-line-of : (t : ℕ) (ks : List Term) (b c : Bool) → eqb t 0 ≡ b → ltb (coefficients ks) t ≡ c
+    sum-line_of : (t : ℕ) (ks : List Term) (b c : Bool) → eqb t 0 ≡ b → ltb (coefficients ks) t ≡ c
         → (sees S T' (sum t ks)).of mv ≡ (sees S T' (cond b (constant dist true) (cond c (constant dist false) (sum t ks)))).of mv
-    sum-line-of t ks true c e f =
+    sum-line_of t ks true c e f =
         let z : t * S.mass ≡ 0 * S.mass = ap (λ (n : ℕ). n * S.mass) (eqb-true t 0 e) in
         le-leb (t * S.mass) (total (λ j. (T' j).at) ks mv) (omega arith)
-    sum-line-of t ks false true e f =
+    sum-line_of t ks false true e f =
         lt-leb (t * S.mass) (total (λ j. (T' j).at) ks mv)
         (omega (arith, total-le S.mass (λ j. (T' j).at) mv w ks, mul-le-mul_right S.mass (ltb-true (coefficients ks) t f), g.heavy))
-    sum-line-of t ks false false e f = refl
+    sum-line_of t ks false false e f = refl
 
   pub became-agrees : (n : ℕ) (l : Line) → AllByRecursion (Fit (wants l)) (parts l) → Agree S (sort l) (sees S T l) (sees S T' (became n E l).line)
   became-agrees n (constant state b) h = λ s. refl
@@ -291,4 +291,4 @@ module _ (S : Meaning) (g : Weighed S) (T T' : ℕ → Truth) (E : ℕ → Outco
   became-agrees n (sum t ks) h = λ mv w.
       ap (leb (t * S.mass)) (split mv w ks (all_of_map (Fit state) (λ k. k.node) ks h))
       ∙ (cut t (yes_part E ks) S.mass (total (λ j. (T' j).at) (terms_left E ks) mv)
-      ∙ sum-line-of mv w (t - yes_part E ks) (terms_left E ks) (eqb (t - yes_part E ks) 0) (ltb (coefficients (terms_left E ks)) (t - yes_part E ks)) refl refl)
+      ∙ sum-line_of mv w (t - yes_part E ks) (terms_left E ks) (eqb (t - yes_part E ks) 0) (ltb (coefficients (terms_left E ks)) (t - yes_part E ks)) refl refl)

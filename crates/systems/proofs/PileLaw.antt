@@ -8,9 +8,9 @@ use Rattle.systems.specs.declared.system.Target.{Target}
 use Rattle.systems.specs.Meaning.{Meaning, Move, Limited, point}
 use Rattle.systems.specs.Piles.{over, pair, moves_over, pile, refusal}
 use Rattle.systems.specs.PileLaw.{Composed, Paired, PileLaw}
-use Rattle.systems.specs.Cross.{length-cross, getD-cross}
-use Rattle.systems.specs.Piled.{inside-moves, shared-count, apart_count, shared-move, upper-move, lower-move}
-use Rattle.systems.specs.PiledSound.{ruled-pile}
+use Rattle.systems.specs.Cross.{length-cross, get_or_cross}
+use Rattle.systems.specs.Piled.{inside_moves, shared_count, apart_count, shared_move, upper_move, lower_move}
+use Rattle.systems.specs.PiledSound.{ruled_pile}
 
 -- the quotient and the remainder of a pair of digits
 first-digit : (i j n : ℕ) → j < n → (i * n + j) / n ≡ i
@@ -22,7 +22,7 @@ second_digit i j n h = mod-mul-add i n j h
 module _ (A : ℕ → Bool) (U L : Meaning) (u v a : ℕ) (hu : u < U.states) (hv : v < L.states) where
   at_pair : (pile A U L).moves (u * L.states + v) a ≡ moves_over A U L u v a
   at_pair =
-      inside-moves A U L (u * L.states + v) a (digits_lt hu hv)
+      inside_moves A U L (u * L.states + v) a (digits_lt hu hv)
       ∙ ap₂ (λ (x y : ℕ). moves_over A U L x y a) (first-digit u v L.states hv) (second_digit u v L.states hv)
 
 composed : (A : ℕ → Bool) (U L : Meaning) → Composed A U L (pile A U L)
@@ -30,16 +30,16 @@ composed A U L = record {
   states = refl;
   mass = refl;
   breadth = refl;
-  together_count = λ u v a hu hv e. ap length (at_pair A U L u v a hu hv) ∙ shared-count A U L u v a e;
+  together_count = λ u v a hu hv e. ap length (at_pair A U L u v a hu hv) ∙ shared_count A U L u v a e;
   together = λ u v a i j hu hv e hi hj.
       ap (λ ms. get_or ms (i * length (L.moves v a) + j) []) (at_pair A U L u v a hu hv)
-      ∙ shared-move A U L u v a (i * length (L.moves v a) + j) e (omega arith)
+      ∙ shared_move A U L u v a (i * length (L.moves v a) + j) e (omega arith)
       ∙ ap₂ (λ (x y : ℕ). pair L.states (get_or (U.moves u a) x []) (get_or (L.moves v a) y [])) (first-digit i j (length (L.moves v a)) hj) (second_digit i j (length (L.moves v a)) hj);
   apart_count = λ u v a hu hv e. ap length (at_pair A U L u v a hu hv) ∙ apart_count A U L u v a e;
-  upper_moves = λ u v a i hu hv e hi. ap (λ ms. get_or ms i []) (at_pair A U L u v a hu hv) ∙ upper-move A U L u v a i e hi;
+  upper_moves = λ u v a i hu hv e hi. ap (λ ms. get_or ms i []) (at_pair A U L u v a hu hv) ∙ upper_move A U L u v a i e hi;
   lower_moves = λ u v a j hu hv e hj.
       ap (λ ms. get_or ms (length (U.moves u a) + j) []) (at_pair A U L u v a hu hv)
-      ∙ lower-move A U L u v a (length (U.moves u a) + j) e (omega arith)
+      ∙ lower_move A U L u v a (length (U.moves u a) + j) e (omega arith)
       ∙ ap (λ (x : ℕ). pair L.states (point U u) (get_or (L.moves v a) x [])) (omega arith);
 }
 
@@ -47,7 +47,7 @@ paired : (k : ℕ) (mu ml : Move) (no_target : Target) → Paired k mu ml no_tar
 paired k mu ml d = record {
   count = length-cross (over k) mu ml;
   each = λ i j hi hj.
-      getD-cross (over k) mu ml (i * length ml + j) d d d (digits_lt hi hj)
+      get_or_cross (over k) mu ml (i * length ml + j) d d d (digits_lt hi hj)
       ∙ ap₂ (λ (x y : ℕ). over k (get_or mu x d) (get_or ml y d)) (first-digit i j (length ml) hj) (second_digit i j (length ml) hj);
 }
 
@@ -67,6 +67,6 @@ pub law : PileLaw
 law = record {
   composed = composed;
   paired = paired;
-  ruled = ruled-pile;
-  sound = λ A U L u l e. record { ruled = ruled-pile A U L u.ruled l.ruled; limited = limited A U L e };
+  ruled = ruled_pile;
+  sound = λ A U L u l e. record { ruled = ruled_pile A U L u.ruled l.ruled; limited = limited A U L e };
 }

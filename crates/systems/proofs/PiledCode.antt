@@ -13,8 +13,8 @@ use Rattle.systems.specs.Meaning.{Meaning, Move, Ruled, Good, Aimed, point}
 use Rattle.systems.specs.Piles.{over, pair, moves_over, pile_moves, pile}
 use Rattle.systems.specs.Fitted.{fitted, agrees, Outside, Split, both, Room}
 use Rattle.systems.specs.Cross.{length-cross}
-use Rattle.systems.specs.Piled.{inside-moves, outside-moves, shared-moves, shared-count, apart_count, shared-move, upper-move, lower-move, cross_nil, nth_pair, good_move}
-use Rattle.systems.specs.PiledSound.{Same, same_numbers, upper-below, lower-below}
+use Rattle.systems.specs.Piled.{inside_moves, outside_moves, shared_moves, shared_count, apart_count, shared_move, upper_move, lower_move, cross_nil, nth_pair, good_move}
+use Rattle.systems.specs.PiledSound.{Same, same_numbers, upper_below, lower_below}
 
 -- a target that a ruled system may answer
 abbrev pub Held : ℕ → ℕ → Option Target → Type 0
@@ -78,7 +78,7 @@ moves_outside {A} {n} {m} {b} {U} {L} {s} h a = go (cases_Bool (agrees n m b (pi
     go : (agrees n m b (pile A U L) ≡ true) ⊎ (agrees n m b (pile A U L) ≡ false) → (ltb s n ≡ false) ⊎ (agrees n m b (pile A U L) ≡ false) → (fitted n m b (pile A U L)).moves s a ≡ []
     go (inr f) g = none f
     go (inl t) (inr g) = none g
-    go (inl t) (inl g) = cond-true (agrees n m b (pile A U L)) (pile_moves A U L s a) [] t ∙ outside-moves A U L s a (omega (arith, ltb-false s n g, (same_numbers n m b (pile A U L) t).states_same))
+    go (inl t) (inl g) = cond-true (agrees n m b (pile A U L)) (pile_moves A U L s a) [] t ∙ outside_moves A U L s a (omega (arith, ltb-false s n g, (same_numbers n m b (pile A U L) t).states_same))
 
 -- in a state that is u over v
 module _ {A : ℕ → Bool} {n m b : ℕ} {U L : Meaning} {s u v : ℕ} (h : Split A n m b U L s u v) where
@@ -89,22 +89,22 @@ module _ {A : ℕ → Bool} {n m b : ℕ} {U L : Meaning} {s u v : ℕ} (h : Spl
   state-inside = omega (arith, numbers.states_same, ltb-true s n (and_parts (ltb s n) (agrees n m b (pile A U L)) h.within).0)
 
   upper-inside : u < U.states
-  upper-inside = rw h.upper_at (upper-below A U L h.upper_ruled h.lower_ruled s state-inside)
+  upper-inside = rw h.upper_at (upper_below A U L h.upper_ruled h.lower_ruled s state-inside)
 
   lower-inside : v < L.states
-  lower-inside = rw h.lower_at (lower-below A U L h.upper_ruled h.lower_ruled s)
+  lower-inside = rw h.lower_at (lower_below A U L h.upper_ruled h.lower_ruled s)
 
   -- the moves are those of u over v
   module _ (a : ℕ) where
     split_moves : (fitted n m b (pile A U L)).moves s a ≡ moves_over A U L u v a
     split_moves =
         cond-true (agrees n m b (pile A U L)) (pile_moves A U L s a) [] (and_parts (ltb s n) (agrees n m b (pile A U L)) h.within).1
-        ∙ inside-moves A U L s a state-inside
+        ∙ inside_moves A U L s a state-inside
         ∙ ap₂ (λ (x y : ℕ). moves_over A U L x y a) (sym h.upper_at) (sym h.lower_at)
 
     module _ {up low : ℕ} (eu : up ≡ length (U.moves u a)) (el : low ≡ length (L.moves v a)) where
       pub count-shared : true ≡ A a → up * low ≡ length ((fitted n m b (pile A U L)).moves s a)
-      count-shared sh = let p = ap length split_moves in let q = shared-count A U L u v a (sym sh) in cc
+      count-shared sh = let p = ap length split_moves in let q = shared_count A U L u v a (sym sh) in cc
 
       pub count-apart : false ≡ A a → up + low ≡ length ((fitted n m b (pile A U L)).moves s a)
       count-apart sh = let p = ap length split_moves in let q = apart_count A U L u v a (sym sh) in cc
@@ -141,15 +141,15 @@ module _ {A : ℕ → Bool} {n m b : ℕ} {U L : Meaning} {s u v : ℕ} (h : Spl
         pub no_move : low ≡ 0 → get_or ((fitted n m b (pile A U L)).moves s a) mv [] ≡ []
         no_move z =
             let e = nil_from_length (L.moves v a) (sym el ∙ z) in
-            let p : (fitted n m b (pile A U L)).moves s a ≡ [] = split_moves ∙ shared-moves A U L u v a (sym sh) ∙ rw e (cross_nil (pair L.states) (U.moves u a)) in
+            let p : (fitted n m b (pile A U L)).moves s a ≡ [] = split_moves ∙ shared_moves A U L u v a (sym sh) ∙ rw e (cross_nil (pair L.states) (U.moves u a)) in
             rw p refl
 
         module _ (some : low ≡ 0 → ⊥) where
           pair-move : get_or ((fitted n m b (pile A U L)).moves s a) mv [] ≡ pair L.states (get_or (U.moves u a) (mv / low) []) (get_or (L.moves v a) (mv % low) [])
-          pair-move = ap (λ (ms : List Move). get_or ms mv []) split_moves ∙ shared-move A U L u v a mv (sym sh) (omega arith) ∙ rw el refl
+          pair-move = ap (λ (ms : List Move). get_or ms mv []) split_moves ∙ shared_move A U L u v a mv (sym sh) (omega arith) ∙ rw el refl
 
-          pub targets-shared : {x y : ℕ} → x ≡ length (get_or (U.moves u a) (mv / low) []) → y ≡ length (get_or (L.moves v a) (mv % low) []) → x * y ≡ length (get_or ((fitted n m b (pile A U L)).moves s a) mv [])
-          targets-shared ex ey =
+          pub targets_shared : {x y : ℕ} → x ≡ length (get_or (U.moves u a) (mv / low) []) → y ≡ length (get_or (L.moves v a) (mv % low) []) → x * y ≡ length (get_or ((fitted n m b (pile A U L)).moves s a) mv [])
+          targets_shared ex ey =
               let p = ap length pair-move in
               let q = length-pair L.states (get_or (U.moves u a) (mv / low) []) (get_or (L.moves v a) (mv % low) []) in
               cc
@@ -170,10 +170,10 @@ module _ {A : ℕ → Bool} {n m b : ℕ} {U L : Meaning} {s u v : ℕ} (h : Spl
       module _ {up : ℕ} (sh : false ≡ A a) (eu : up ≡ length (U.moves u a)) where
         module _ (l : mv < up) where
           upper-pair : get_or ((fitted n m b (pile A U L)).moves s a) mv [] ≡ pair L.states (get_or (U.moves u a) mv []) (point L v)
-          upper-pair = ap (λ (ms : List Move). get_or ms mv []) split_moves ∙ upper-move A U L u v a mv (sym sh) (omega arith)
+          upper-pair = ap (λ (ms : List Move). get_or ms mv []) split_moves ∙ upper_move A U L u v a mv (sym sh) (omega arith)
 
-          pub targets-upper : {x : ℕ} → x ≡ length (get_or (U.moves u a) mv []) → x ≡ length (get_or ((fitted n m b (pile A U L)).moves s a) mv [])
-          targets-upper ex =
+          pub targets_upper : {x : ℕ} → x ≡ length (get_or (U.moves u a) mv []) → x ≡ length (get_or ((fitted n m b (pile A U L)).moves s a) mv [])
+          targets_upper ex =
               let p = ap length upper-pair in
               let q = length-pair L.states (get_or (U.moves u a) mv []) (point L v) in
               let r = mul-one (length (get_or (U.moves u a) mv [])) in
@@ -187,10 +187,10 @@ module _ {A : ℕ → Bool} {n m b : ℕ} {U L : Meaning} {s u v : ℕ} (h : Spl
 
         module _ (g : up ≤ mv) where
           lower-pair : get_or ((fitted n m b (pile A U L)).moves s a) mv [] ≡ pair L.states (point U u) (get_or (L.moves v a) (mv - up) [])
-          lower-pair = ap (λ (ms : List Move). get_or ms mv []) split_moves ∙ lower-move A U L u v a mv (sym sh) (omega arith) ∙ rw eu refl
+          lower-pair = ap (λ (ms : List Move). get_or ms mv []) split_moves ∙ lower_move A U L u v a mv (sym sh) (omega arith) ∙ rw eu refl
 
-          pub targets-lower : {x : ℕ} → x ≡ length (get_or (L.moves v a) (mv - up) []) → x ≡ length (get_or ((fitted n m b (pile A U L)).moves s a) mv [])
-          targets-lower ex =
+          pub targets_lower : {x : ℕ} → x ≡ length (get_or (L.moves v a) (mv - up) []) → x ≡ length (get_or ((fitted n m b (pile A U L)).moves s a) mv [])
+          targets_lower ex =
               let p = ap length lower-pair in
               let q = length-pair L.states (point U u) (get_or (L.moves v a) (mv - up) []) in
               let r = one-mul (length (get_or (L.moves v a) (mv - up) [])) in

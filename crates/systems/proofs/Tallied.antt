@@ -32,8 +32,8 @@ module _ (rs : List MoveRecord) where
     each = λ k a h h'. ap (λ (xs : List ℕ). get_or xs (cell_of k a) 0) e ∙ get_or-replicate {A = ℕ} 2048 (cell_of k a) 0 0 (omega arith);
   }
 
-  pub grouped-none : (n : ℕ) (cells : List (List MoveRecord)) → cells ≡ replicate (n * 32) [] → Grouped n rs 0 cells
-  grouped-none n cells e = record {
+  pub grouped_none : (n : ℕ) (cells : List (List MoveRecord)) → cells ≡ replicate (n * 32) [] → Grouped n rs 0 cells
+  grouped_none n cells e = record {
     size = ap length e ∙ length-replicate (n * 32) [];
     each = λ k a h h'. ap (λ (xs : List (List MoveRecord)). get_or xs (cell_of k a) []) e ∙ get_or-replicate (n * 32) (cell_of k a) [] [] (omega arith);
   }
@@ -61,8 +61,8 @@ module _ (rs : List MoveRecord) where
         go (inr e) = cond-false (asks k a (row rs i)) y (get_or xs (cell_of k a) d) e ∙ before ∙ ap f (sym (cond-false (asks k a (row rs i)) _ _ e))
 
     -- the cell of a state and an action that the record asks is that of the record
-    own-cell : (k a : ℕ) → asks k a (row rs i) ≡ true → cell_of (row rs i).state (row rs i).action ≡ cell_of k a
-    own-cell k a e =
+    own_cell : (k a : ℕ) → asks k a (row rs i) ≡ true → cell_of (row rs i).state (row rs i).action ≡ cell_of k a
+    own_cell k a e =
         let p = and_parts (eqb (row rs i).state k) (eqb (row rs i).action a) e in
         let s = eqb-true (row rs i).state k p.0 in
         let t = eqb-true (row rs i).action a p.1 in
@@ -72,12 +72,12 @@ module _ (rs : List MoveRecord) where
     counted-more counts inside c = record {
       whole = length-set counts (cell_of (row rs i).state (row rs i).action) (get_or counts (cell_of (row rs i).state (row rs i).action) 0 + 1) ∙ c.whole;
       each = λ k a hk ha. keep length counts (get_or counts (cell_of (row rs i).state (row rs i).action) 0 + 1) 0 k a ha (omega (arith, c.whole)) (c.each k a hk ha)
-          (λ e. ap (λ (x : ℕ). get_or counts x 0 + 1) (own-cell k a e) ∙ ap (λ (x : ℕ). x + 1) (c.each k a hk ha) ∙ sym (length-append (asked k a (take i rs)) (row rs i ∷ [])));
+          (λ e. ap (λ (x : ℕ). get_or counts x 0 + 1) (own_cell k a e) ∙ ap (λ (x : ℕ). x + 1) (c.each k a hk ha) ∙ sym (length-append (asked k a (take i rs)) (row rs i ∷ [])));
     }
 
-    pub grouped-more : (n : ℕ) (cells : List (List MoveRecord)) → (row rs i).state < n → Grouped n rs i cells → Grouped n rs (i + 1) (set cells (cell_of (row rs i).state (row rs i).action) (get_or cells (cell_of (row rs i).state (row rs i).action) [] ++ row rs i ∷ []))
-    grouped-more n cells inside g = record {
+    pub grouped_more : (n : ℕ) (cells : List (List MoveRecord)) → (row rs i).state < n → Grouped n rs i cells → Grouped n rs (i + 1) (set cells (cell_of (row rs i).state (row rs i).action) (get_or cells (cell_of (row rs i).state (row rs i).action) [] ++ row rs i ∷ []))
+    grouped_more n cells inside g = record {
       size = length-set cells (cell_of (row rs i).state (row rs i).action) (get_or cells (cell_of (row rs i).state (row rs i).action) [] ++ row rs i ∷ []) ∙ g.size;
       each = λ k a hk ha. keep (λ xs. xs) cells (get_or cells (cell_of (row rs i).state (row rs i).action) [] ++ row rs i ∷ []) [] k a ha (omega (arith, g.size)) (g.each k a hk ha)
-          (λ e. ap (λ (x : ℕ). get_or cells x [] ++ row rs i ∷ []) (own-cell k a e) ∙ ap (λ (xs : List MoveRecord). xs ++ row rs i ∷ []) (g.each k a hk ha));
+          (λ e. ap (λ (x : ℕ). get_or cells x [] ++ row rs i ∷ []) (own_cell k a e) ∙ ap (λ (xs : List MoveRecord). xs ++ row rs i ∷ []) (g.each k a hk ha));
     }

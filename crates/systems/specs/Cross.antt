@@ -23,10 +23,10 @@ module _ {X Y Z : Type 0} (f : X → Y → Z) where
   length-cross (x ∷ xs) ys =
       length-append (map (f x) ys) (cross f xs ys) ∙ omega (arith, length-map ys (f x), length-cross xs ys, suc-mul (length xs) (length ys))
 
-  pub getD-cross : (xs : List X) (ys : List Y) (i : ℕ) (dx : X) (dy : Y) (dz : Z) → i < length xs * length ys → slice_index_or (cross f xs ys) i dz ≡ f (slice_index_or xs (i / length ys) dx) (slice_index_or ys (i % length ys) dy)
+  pub get_or_cross : (xs : List X) (ys : List Y) (i : ℕ) (dx : X) (dy : Y) (dz : Z) → i < length xs * length ys → slice_index_or (cross f xs ys) i dz ≡ f (slice_index_or xs (i / length ys) dx) (slice_index_or ys (i % length ys) dy)
   unfolding cross
-  getD-cross [] ys i dx dy dz h = absurd (not-suc-le-zero (subst (λ (n : ℕ). i < n) (zero-mul (length ys)) h))
-  getD-cross (x ∷ xs) ys i dx dy dz h = go (cases_lt i (length ys)) (getD-cross xs ys (i - length ys) dx dy dz)
+  get_or_cross [] ys i dx dy dz h = absurd (not-suc-le-zero (subst (λ (n : ℕ). i < n) (zero-mul (length ys)) h))
+  get_or_cross (x ∷ xs) ys i dx dy dz h = go (cases_lt i (length ys)) (get_or_cross xs ys (i - length ys) dx dy dz)
     where
       go : (i < length ys) ⊎ (length ys ≤ i) → (i - length ys < length xs * length ys → slice_index_or (cross f xs ys) (i - length ys) dz ≡ f (slice_index_or xs ((i - length ys) / length ys) dx) (slice_index_or ys ((i - length ys) % length ys) dy)) → slice_index_or (map (f x) ys ++ cross f xs ys) i dz ≡ f (slice_index_or (x ∷ xs) (i / length ys) dx) (slice_index_or ys (i % length ys) dy)
       go (inl l) ih =
@@ -49,8 +49,8 @@ module _ {X Y Z : Type 0} (f : X → Y → Z) (v : X → ℕ) (w : Y → ℕ) (v
   sum_row x (y ∷ ys) =
       sum_by-cons vw (f x y) (map (f x) ys) ∙ omega (arith, times x y, sum_row x ys, mul-add (v x) (w y) (sum_by w ys), ap (λ n. v x * n) (sum_by-cons w y ys))
 
-  pub sum-cross : (xs : List X) (ys : List Y) → sum_by vw (cross f xs ys) ≡ sum_by v xs * sum_by w ys
+  pub sum_cross : (xs : List X) (ys : List Y) → sum_by vw (cross f xs ys) ≡ sum_by v xs * sum_by w ys
   unfolding cross
-  sum-cross [] ys = sym (zero-mul (sum_by w ys))
-  sum-cross (x ∷ xs) ys =
-      sum_by-append vw (map (f x) ys) (cross f xs ys) ∙ omega (arith, sum_row x ys, sum-cross xs ys, add-mul (v x) (sum_by v xs) (sum_by w ys), ap (λ n. n * sum_by w ys) (sum_by-cons v x xs))
+  sum_cross [] ys = sym (zero-mul (sum_by w ys))
+  sum_cross (x ∷ xs) ys =
+      sum_by-append vw (map (f x) ys) (cross f xs ys) ∙ omega (arith, sum_row x ys, sum_cross xs ys, add-mul (v x) (sum_by v xs) (sum_by w ys), ap (λ n. n * sum_by w ys) (sum_by-cons v x xs))

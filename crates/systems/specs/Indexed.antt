@@ -14,16 +14,16 @@ use Rattle.systems.specs.Tables.{every, asked, row, no_record, run, good_run, lo
 use Rattle.systems.specs.Mounts.{first_fault}
 use Rattle.systems.specs.Index.{listed, index_meaning, good_record, good_list, good_index, Listed, Grouped}
 use Rattle.systems.specs.Runs.{aimed_run, length_run, nth_run, nth_run_past}
-use Rattle.systems.specs.Mounted.{all-fine, all-sized, asked-all, few-all, none-past, none-acts}
+use Rattle.systems.specs.Mounted.{all_fine, all_sized, asked_all, few_all, none_past, none_acts}
 
 module _ {X : Type 0} (p : X → Bool) where
-  every-all : (xs : List X) → every p xs ≡ true → AllByRecursion (λ x. p x ≡ true) xs
-  every-all [] e = tt
-  every-all (x ∷ xs) e = let q = and_parts (p x) (every p xs) e in (q.0, every-all xs q.1)
+  every_all : (xs : List X) → every p xs ≡ true → AllByRecursion (λ x. p x ≡ true) xs
+  every_all [] e = tt
+  every_all (x ∷ xs) e = let q = and_parts (p x) (every p xs) e in (q.0, every_all xs q.1)
 
-  all-every : (xs : List X) → AllByRecursion (λ x. p x ≡ true) xs → every p xs ≡ true
-  all-every [] h = refl
-  all-every (x ∷ xs) h = and_from (p x) (every p xs) h.0 (all-every xs h.1)
+  all_every : (xs : List X) → AllByRecursion (λ x. p x ≡ true) xs → every p xs ≡ true
+  all_every [] h = refl
+  all_every (x ∷ xs) h = and_from (p x) (every p xs) h.0 (all_every xs h.1)
 
 -- a record of a good index
 pub record Fit (n b : ℕ) (ts : List Target) (r : MoveRecord) : Type 0 where
@@ -54,39 +54,39 @@ module _ (n b : ℕ) (ts : List Target) where
     few : length rs ≤ b
     each : AllByRecursion (Fit n b ts) rs
 
-  fits-list : (rs : List MoveRecord) → good_list n b ts rs ≡ true → Fits rs
-  fits-list rs e =
+  fits_list : (rs : List MoveRecord) → good_list n b ts rs ≡ true → Fits rs
+  fits_list rs e =
       let p = and_parts (nat_le (length rs) b) (every (good_record n b ts) rs) e in
-      record { few = leb-true (length rs) b p.0; each = All-weaker (λ r. good_record n b ts r ≡ true) (Fit n b ts) fit rs (every-all (good_record n b ts) rs p.1) }
+      record { few = leb-true (length rs) b p.0; each = All-weaker (λ r. good_record n b ts r ≡ true) (Fit n b ts) fit rs (every_all (good_record n b ts) rs p.1) }
 
-  list-fits : (rs : List MoveRecord) → length rs ≤ b → AllByRecursion (Fit n b ts) rs → good_list n b ts rs ≡ true
-  list-fits rs h each =
+  list_fits : (rs : List MoveRecord) → length rs ≤ b → AllByRecursion (Fit n b ts) rs → good_list n b ts rs ≡ true
+  list_fits rs h each =
       and_from (nat_le (length rs) b) (every (good_record n b ts) rs) (le-leb (length rs) b h)
-      (all-every (good_record n b ts) rs (All-weaker (Fit n b ts) (λ r. good_record n b ts r ≡ true) unfit rs each))
+      (all_every (good_record n b ts) rs (All-weaker (Fit n b ts) (λ r. good_record n b ts r ≡ true) unfit rs each))
 
   module _ (cells : List (List MoveRecord)) (good : good_index n b cells ts ≡ true) where
-    fits-cell : (c : ℕ) → Fits (slice_index_or cells c [])
-    fits-cell c = go (cases_lt c (length cells))
+    fits_cell : (c : ℕ) → Fits (slice_index_or cells c [])
+    fits_cell c = go (cases_lt c (length cells))
       where
         go : (c < length cells) ⊎ (length cells ≤ c) → Fits (slice_index_or cells c [])
-        go (inl l) = fits-list (slice_index_or cells c []) (All-get_or (λ rs. good_list n b ts rs ≡ true) cells c [] l (every-all (good_list n b ts) cells good))
+        go (inl l) = fits_list (slice_index_or cells c []) (All-get_or (λ rs. good_list n b ts rs ≡ true) cells c [] l (every_all (good_list n b ts) cells good))
         go (inr g) = subst Fits (sym (get_or_past cells c [] g)) (record { few = omega arith; each = tt })
 
-    fits-listed : (k a : ℕ) → Fits (listed n cells k a)
-    fits-listed k a = go (cases_Bool (nat_lt k n && nat_lt a 32))
+    fits_listed : (k a : ℕ) → Fits (listed n cells k a)
+    fits_listed k a = go (cases_Bool (nat_lt k n && nat_lt a 32))
       where
         go : (nat_lt k n && nat_lt a 32 ≡ true) ⊎ (nat_lt k n && nat_lt a 32 ≡ false) → Fits (listed n cells k a)
-        go (inl e) = subst Fits (sym (cond-true (nat_lt k n && nat_lt a 32) (slice_index_or cells (cell_of k a) []) [] e)) (fits-cell (cell_of k a))
+        go (inl e) = subst Fits (sym (cond-true (nat_lt k n && nat_lt a 32) (slice_index_or cells (cell_of k a) []) [] e)) (fits_cell (cell_of k a))
         go (inr e) = subst Fits (sym (cond-false (nat_lt k n && nat_lt a 32) (slice_index_or cells (cell_of k a) []) [] e)) (record { few = omega arith; each = tt })
 
-    pub few-listed : (k a : ℕ) → length (listed n cells k a) ≤ b
-    few-listed k a = (fits-listed k a).few
+    pub few_listed : (k a : ℕ) → length (listed n cells k a) ≤ b
+    few_listed k a = (fits_listed k a).few
 
-    pub fit-listed : (k a mv : ℕ) (d : MoveRecord) → mv < length (listed n cells k a) → Fit n b ts (slice_index_or (listed n cells k a) mv d)
-    fit-listed k a mv d l = All-get_or (Fit n b ts) (listed n cells k a) mv d l (fits-listed k a).each
+    pub fit_listed : (k a mv : ℕ) (d : MoveRecord) → mv < length (listed n cells k a) → Fit n b ts (slice_index_or (listed n cells k a) mv d)
+    fit_listed k a mv d l = All-get_or (Fit n b ts) (listed n cells k a) mv d l (fits_listed k a).each
 
-    none-listed : (k a : ℕ) → nat_lt k n && nat_lt a 32 ≡ false → listed n cells k a ≡ []
-    none-listed k a e = cond-false (nat_lt k n && nat_lt a 32) (slice_index_or cells (cell_of k a) []) [] e
+    none_listed : (k a : ℕ) → nat_lt k n && nat_lt a 32 ≡ false → listed n cells k a ≡ []
+    none_listed k a e = cond-false (nat_lt k n && nat_lt a 32) (slice_index_or cells (cell_of k a) []) [] e
 
     pub sound_index : Between 1 64 n → Between 2 64 b → Sound (index_meaning n b cells ts)
     sound_index hn hb = record {
@@ -94,10 +94,10 @@ module _ (n b : ℕ) (ts : List Target) where
         states_low = hn.0;
         mass_low = omega arith;
         breadth_low = hb.0;
-        past_states = λ k a h. ap (map (run ts)) (none-listed k a (and_left (nat_lt k n) (nat_lt a 32) (le-ltb k n h)));
-        past_actions = λ k a h. ap (map (run ts)) (none-listed k a (and_right (nat_lt k n) (nat_lt a 32) (le-ltb a 32 h)));
-        few = λ k a. omega (arith, length-map (listed n cells k a) (run ts), few-listed k a);
-        each = λ k a. All-map (Good n 1000 b) (run ts) (listed n cells k a) (All-weaker (Fit n b ts) (λ r. Good n 1000 b (run ts r)) good_move (listed n cells k a) (fits-listed k a).each);
+        past_states = λ k a h. ap (map (run ts)) (none_listed k a (and_left (nat_lt k n) (nat_lt a 32) (le-ltb k n h)));
+        past_actions = λ k a h. ap (map (run ts)) (none_listed k a (and_right (nat_lt k n) (nat_lt a 32) (le-ltb a 32 h)));
+        few = λ k a. omega (arith, length-map (listed n cells k a) (run ts), few_listed k a);
+        each = λ k a. All-map (Good n 1000 b) (run ts) (listed n cells k a) (All-weaker (Fit n b ts) (λ r. Good n 1000 b (run ts r)) good_move (listed n cells k a) (fits_listed k a).each);
       };
       limited = record { states_high = omega (arith, hn.1); mass_high = omega arith; breadth_high = omega (arith, hb.1) };
     }
@@ -108,65 +108,65 @@ in_range n cells k a p q = cond-true (nat_lt k n && nat_lt a 32) (slice_index_or
 -- the records of a state and an action, and the moves that they have
 module _ {n b : ℕ} {ts : List Target} {cells : List (List MoveRecord)} {k a : ℕ} {rows : List MoveRecord} (h : Listed n b ts cells k a rows) where
   pub few_rows : length rows ≤ b
-  few_rows = omega (arith, ap length h.is, few-listed n b ts cells h.good k a)
+  few_rows = omega (arith, ap length h.is, few_listed n b ts cells h.good k a)
 
-  pub count-rows : length rows ≡ length (map (run ts) (listed n cells k a))
-  count-rows = ap length h.is ∙ sym (length-map (listed n cells k a) (run ts))
+  pub count_rows : length rows ≡ length (map (run ts) (listed n cells k a))
+  count_rows = ap length h.is ∙ sym (length-map (listed n cells k a) (run ts))
 
   module _ (mv : ℕ) where
     pub no_move : length rows ≤ mv → slice_index_or (map (run ts) (listed n cells k a)) mv [] ≡ []
-    no_move g = get_or_past (map (run ts) (listed n cells k a)) mv [] (omega (arith, count-rows))
+    no_move g = get_or_past (map (run ts) (listed n cells k a)) mv [] (omega (arith, count_rows))
 
     module _ (l : mv < length rows) where
       pub fit_row : Fit n b ts (slice_index_or rows mv no_record)
-      fit_row = subst (λ (xs : List MoveRecord). Fit n b ts (slice_index_or xs mv no_record)) (sym h.is) (fit-listed n b ts cells h.good k a mv no_record (omega (arith, ap length h.is)))
+      fit_row = subst (λ (xs : List MoveRecord). Fit n b ts (slice_index_or xs mv no_record)) (sym h.is) (fit_listed n b ts cells h.good k a mv no_record (omega (arith, ap length h.is)))
 
-      the-move : get_or (map (run ts) (listed n cells k a)) mv [] ≡ run ts (slice_index_or rows mv no_record)
-      the-move = ap (λ (xs : List MoveRecord). get_or (map (run ts) xs) mv []) (sym h.is) ∙ get_or-map (run ts) rows mv no_record [] l
+      the_move : get_or (map (run ts) (listed n cells k a)) mv [] ≡ run ts (slice_index_or rows mv no_record)
+      the_move = ap (λ (xs : List MoveRecord). get_or (map (run ts) xs) mv []) (sym h.is) ∙ get_or-map (run ts) rows mv no_record [] l
 
-      pub count-targets : (get_or rows mv no_record).count ≡ length (slice_index_or (map (run ts) (listed n cells k a)) mv [])
-      count-targets = sym (ap length the-move ∙ length_run ts (slice_index_or rows mv no_record) fit_row.placed)
+      pub count_targets : (get_or rows mv no_record).count ≡ length (slice_index_or (map (run ts) (listed n cells k a)) mv [])
+      count_targets = sym (ap length the_move ∙ length_run ts (slice_index_or rows mv no_record) fit_row.placed)
 
       pub target_at : (j : ℕ) (d : Target) → j < (get_or rows mv no_record).count → Some (slice_index_or ts ((get_or rows mv no_record).first + j) d) ≡ slice_get (slice_index_or (map (run ts) (listed n cells k a)) mv []) j
-      target_at j d l' = sym (ap (λ (xs : Move). slice_get xs j) the-move ∙ nth_run ts (slice_index_or rows mv no_record) j d fit_row.placed l')
+      target_at j d l' = sym (ap (λ (xs : Move). slice_get xs j) the_move ∙ nth_run ts (slice_index_or rows mv no_record) j d fit_row.placed l')
 
       pub no_target : (j : ℕ) → (get_or rows mv no_record).count ≤ j → None ≡ slice_get (slice_index_or (map (run ts) (listed n cells k a)) mv []) j
-      no_target j g = sym (ap (λ (xs : Move). slice_get xs j) the-move ∙ nth_run_past ts (slice_index_or rows mv no_record) j fit_row.placed g)
+      no_target j g = sym (ap (λ (xs : Move). slice_get xs j) the_move ∙ nth_run_past ts (slice_index_or rows mv no_record) j fit_row.placed g)
 
 -- the index of tables in which no record is refused
 module _ (n : ℕ) (rs : List MoveRecord) (ts : List Target) (cells : List (List MoveRecord)) (ok : first_fault n rs ts (length rs) ≡ None) (g : Grouped n rs (length rs) cells) where
-  listed-asked : (k a : ℕ) → k < n → a < 32 → slice_index_or cells (cell_of k a) [] ≡ asked k a rs
-  listed-asked k a hk ha = g.each k a hk ha ∙ ap (asked k a) (take_all (length rs) rs (omega arith))
+  listed_asked : (k a : ℕ) → k < n → a < 32 → slice_index_or cells (cell_of k a) [] ≡ asked k a rs
+  listed_asked k a hk ha = g.each k a hk ha ∙ ap (asked k a) (take_all (length rs) rs (omega arith))
 
-  cell-list : (c : ℕ) → c < length cells → slice_index_or cells c [] ≡ asked (c / 32) (c % 32) rs
-  cell-list c l =
+  cell_list : (c : ℕ) → c < length cells → slice_index_or cells c [] ≡ asked (c / 32) (c % 32) rs
+  cell_list c l =
       ap (λ (x : ℕ). get_or cells x []) (sym (div-add-mod' c 32))
-      ∙ listed-asked (c / 32) (c % 32) (div_below c 32 n (omega arith) (omega (arith, g.size))) (mod_below c 32 (omega arith))
+      ∙ listed_asked (c / 32) (c % 32) (div_below c 32 n (omega arith) (omega (arith, g.size))) (mod_below c 32 (omega arith))
 
   all_fit : (i : ℕ) → i < length rs → Fit n (longest rs (length rs)) ts (row rs i)
   all_fit i l =
-      let s = all-sized n rs ts ok i l in
-      let f = all-fine n rs ts ok i l in
+      let s = all_sized n rs ts ok i l in
+      let f = all_fine n rs ts ok i l in
       record { small = s.0; placed = s.1; good = f.good; whole = f.whole }
 
-  pub index-good : good_index n (longest rs (length rs)) cells ts ≡ true
-  index-good = all-every (good_list n (longest rs (length rs)) ts) cells
+  pub index_good : good_index n (longest rs (length rs)) cells ts ≡ true
+  index_good = all_every (good_list n (longest rs (length rs)) ts) cells
       (All-from_get_or (λ xs. good_list n (longest rs (length rs)) ts xs ≡ true) cells []
-      (λ c l. subst (λ (xs : List MoveRecord). good_list n (longest rs (length rs)) ts xs ≡ true) (sym (cell-list c l))
-      (list-fits n (longest rs (length rs)) ts (asked (c / 32) (c % 32) rs) (few-all rs (c / 32) (c % 32)) (asked-all n rs ts ok (Fit n (longest rs (length rs)) ts) all_fit (c / 32) (c % 32)))))
+      (λ c l. subst (λ (xs : List MoveRecord). good_list n (longest rs (length rs)) ts xs ≡ true) (sym (cell_list c l))
+      (list_fits n (longest rs (length rs)) ts (asked (c / 32) (c % 32) rs) (few_all rs (c / 32) (c % 32)) (asked_all n rs ts ok (Fit n (longest rs (length rs)) ts) all_fit (c / 32) (c % 32)))))
 
-  same-list : (k a : ℕ) → listed n cells k a ≡ asked k a rs
-  same-list k a = go (cases_lt k n) (cases_lt a 32)
+  same_list : (k a : ℕ) → listed n cells k a ≡ asked k a rs
+  same_list k a = go (cases_lt k n) (cases_lt a 32)
     where
       none : ltb k n && nat_lt a 32 ≡ false → asked k a rs ≡ [] → listed n cells k a ≡ asked k a rs
       none e z = cond-false (nat_lt k n && nat_lt a 32) (slice_index_or cells (cell_of k a) []) [] e ∙ sym z
 
       go : (k < n) ⊎ (n ≤ k) → (a < 32) ⊎ (32 ≤ a) → listed n cells k a ≡ asked k a rs
-      go (inl p) (inl q) = in_range n cells k a p q ∙ listed-asked k a p q
-      go (inl p) (inr q) = none (and_right (nat_lt k n) (nat_lt a 32) (le-ltb a 32 q)) (none-acts n rs ts ok k a q)
-      go (inr p) q = none (and_left (nat_lt k n) (nat_lt a 32) (le-ltb k n p)) (none-past n rs ts ok k a p)
+      go (inl p) (inl q) = in_range n cells k a p q ∙ listed_asked k a p q
+      go (inl p) (inr q) = none (and_right (nat_lt k n) (nat_lt a 32) (le-ltb a 32 q)) (none_acts n rs ts ok k a q)
+      go (inr p) q = none (and_left (nat_lt k n) (nat_lt a 32) (le-ltb k n p)) (none_past n rs ts ok k a p)
 
-  pub same-meaning : index_meaning n (longest rs (length rs)) cells ts ≡ table_meaning n rs ts
-  same-meaning =
+  pub same_meaning : index_meaning n (longest rs (length rs)) cells ts ≡ table_meaning n rs ts
+  same_meaning =
       ap (λ (f : ℕ → ℕ → List Move). record { states = n; mass = 1000; breadth = longest rs (length rs); moves = f })
-      (fun_ext (λ k. fun_ext (λ a. ap (map (run ts)) (same-list k a))))
+      (fun_ext (λ k. fun_ext (λ a. ap (map (run ts)) (same_list k a))))

@@ -12,7 +12,7 @@ use Rattle.systems.specs.declared.fault.MountFault.TheVariants.{Record, Weights}
 use Rattle.systems.specs.Meaning.{Between, total}
 use Rattle.systems.specs.Tables.{asks, asked, no_record, row, run, fits_alone, good_run, longest}
 use Rattle.systems.specs.Mounts.{or_else, few_enough, row_fault, first_fault, sizes, mount_fault, blamed}
-use Rattle.systems.specs.Runs.{count-miss}
+use Rattle.systems.specs.Runs.{count_miss}
 
 -- a record that keeps the rules that ask for no other
 pub record Alone (n places : ℕ) (r : MoveRecord) : Type 0 where
@@ -43,24 +43,24 @@ same_asked k a r e xs =
 
 -- the longest list of the first records
 module _ (rs : List MoveRecord) where
-  pub longest-more : (i : ℕ) → longest rs (i + 1) ≡ max (longest rs i) (max (row rs i).count (length (asked (row rs i).state (row rs i).action (take (i + 1) rs))))
-  longest-more i = ap (longest rs) (add-one i)
+  pub longest_more : (i : ℕ) → longest rs (i + 1) ≡ max (longest rs i) (max (row rs i).count (length (asked (row rs i).state (row rs i).action (take (i + 1) rs))))
+  longest_more i = ap (longest rs) (add-one i)
 
-  pub longest-low : (j : ℕ) → 2 ≤ longest rs j
-  longest-low zero = omega arith
-  longest-low (suc j) = omega (arith, longest-low j)
+  pub longest_low : (j : ℕ) → 2 ≤ longest rs j
+  longest_low zero = omega arith
+  longest_low (suc j) = omega (arith, longest_low j)
 
-  count-below : (j i : ℕ) → i < j → (row rs i).count ≤ longest rs j
-  count-below zero i l = absurd (omega arith)
-  count-below (suc j) i l = go (cases_lt i j) (count-below j i)
+  count_below : (j i : ℕ) → i < j → (row rs i).count ≤ longest rs j
+  count_below zero i l = absurd (omega arith)
+  count_below (suc j) i l = go (cases_lt i j) (count_below j i)
     where
       go : (i < j) ⊎ (j ≤ i) → (i < j → (row rs i).count ≤ longest rs j) → (row rs i).count ≤ longest rs (suc j)
       go (inl h) ih = omega (arith, ih h)
       go (inr g) ih = let q : j ≡ i = omega arith in subst (λ (x : ℕ). (row rs x).count ≤ longest rs (suc j)) q (omega arith)
 
-  few-below : (k a j : ℕ) → j ≤ length rs → length (asked k a (take j rs)) ≤ longest rs j
-  few-below k a zero h = omega arith
-  few-below k a (suc j) h = go (cases_Bool (asks k a (row rs j))) (few-below k a j (omega arith))
+  few_below : (k a j : ℕ) → j ≤ length rs → length (asked k a (take j rs)) ≤ longest rs j
+  few_below k a zero h = omega arith
+  few_below k a (suc j) h = go (cases_Bool (asks k a (row rs j))) (few_below k a j (omega arith))
     where
       met : length (asked (row rs j).state (row rs j).action (take (j + 1) rs)) ≤ longest rs (suc j)
       met = omega arith
@@ -70,11 +70,11 @@ module _ (rs : List MoveRecord) where
           subst (λ (x : ℕ). length (asked k a (take x rs)) ≤ longest rs (suc j)) (add-one j)
           (subst (λ (xs : List MoveRecord). length xs ≤ longest rs (suc j)) (sym (same_asked k a (row rs j) e (take (j + 1) rs))) met)
       go (inr e) ih =
-          let m = count-miss k a rs j (length (asked k a (take j rs))) no_record h refl e in
+          let m = count_miss k a rs j (length (asked k a (take j rs))) no_record h refl e in
           subst (λ (x : ℕ). length (asked k a (take x rs)) ≤ longest rs (suc j)) (add-one j) (omega (arith, m))
 
-  pub few-all : (k a : ℕ) → length (asked k a rs) ≤ longest rs (length rs)
-  few-all k a = subst (λ (xs : List MoveRecord). length (asked k a xs) ≤ longest rs (length rs)) (take_all (length rs) rs (omega arith)) (few-below k a (length rs) (omega arith))
+  pub few_all : (k a : ℕ) → length (asked k a rs) ≤ longest rs (length rs)
+  few_all k a = subst (λ (xs : List MoveRecord). length (asked k a xs) ≤ longest rs (length rs)) (take_all (length rs) rs (omega arith)) (few_below k a (length rs) (omega arith))
 
 or_none : (x y : Option MountFault) → or_else x y ≡ None → (x ≡ None) × (y ≡ None)
 or_none None y e = (refl, e)
@@ -84,9 +84,9 @@ module _ (n : ℕ) (rs : List MoveRecord) (ts : List Target) where
   pub none_more : (i : ℕ) → first_fault n rs ts i ≡ None → None ≡ row_fault n rs ts i → first_fault n rs ts (i + 1) ≡ None
   none_more i p q = rw add-one (ap (λ (x : Option MountFault). or_else x (row_fault n rs ts i)) p ∙ sym q)
 
-  pub fault-stays : (f : MountFault) (i j : ℕ) → i ≤ j → first_fault n rs ts i ≡ Some f → first_fault n rs ts j ≡ Some f
-  fault-stays f i zero h e = let q : i ≡ zero = omega arith in subst (λ (x : ℕ). first_fault n rs ts x ≡ Some f) q e
-  fault-stays f i (suc j) h e = go (cases_lt i (suc j)) (fault-stays f i j)
+  pub fault_stays : (f : MountFault) (i j : ℕ) → i ≤ j → first_fault n rs ts i ≡ Some f → first_fault n rs ts j ≡ Some f
+  fault_stays f i zero h e = let q : i ≡ zero = omega arith in subst (λ (x : ℕ). first_fault n rs ts x ≡ Some f) q e
+  fault_stays f i (suc j) h e = go (cases_lt i (suc j)) (fault_stays f i j)
     where
       go : (i < suc j) ⊎ (suc j ≤ i) → (i ≤ j → first_fault n rs ts i ≡ Some f → first_fault n rs ts j ≡ Some f) → first_fault n rs ts (suc j) ≡ Some f
       go (inl l) ih = ap (λ (x : Option MountFault). or_else x (row_fault n rs ts j)) (ih (omega arith) e)
@@ -108,8 +108,8 @@ module _ (n : ℕ) (rs : List MoveRecord) (ts : List Target) where
           let z : ◌≡◌ {A = ℕ} 0 1 = cc in
           absurd (omega arith)
 
-  pub fault-first : (f : MountFault) (i j : ℕ) → i < j → first_fault n rs ts i ≡ None → Some f ≡ row_fault n rs ts i → first_fault n rs ts j ≡ blamed f
-  fault-first f i j l p q = fault-stays f (suc i) j l (ap (λ (x : Option MountFault). or_else x (row_fault n rs ts i)) p ∙ sym q) ∙ blame f i q
+  pub fault_first : (f : MountFault) (i j : ℕ) → i < j → first_fault n rs ts i ≡ None → Some f ≡ row_fault n rs ts i → first_fault n rs ts j ≡ blamed f
+  fault_first f i j l p q = fault_stays f (suc i) j l (ap (λ (x : Option MountFault). or_else x (row_fault n rs ts i)) p ∙ sym q) ∙ blame f i q
 
   none_below : (j i : ℕ) → i < j → first_fault n rs ts j ≡ None → row_fault n rs ts i ≡ None
   none_below zero i l e = absurd (omega arith)
@@ -121,7 +121,7 @@ module _ (n : ℕ) (rs : List MoveRecord) (ts : List Target) where
 
   -- a record with no fault
   pub record Fine (i : ℕ) : Type 0 where
-    pub alone-fits : Alone n (length ts) (row rs i)
+    pub alone_fits : Alone n (length ts) (row rs i)
     pub few : length (asked (row rs i).state (row rs i).action (take (i + 1) rs)) ≤ 64
     pub good : good_run n (run ts (row rs i)) ≡ true
     pub whole : total (run ts (row rs i)) ≡ 1000
@@ -140,46 +140,46 @@ module _ (n : ℕ) (rs : List MoveRecord) (ts : List Target) where
           let r = row rs i in
           let p = and_parts (fits_alone n (length ts) r) (few_enough rs i r) a in
           record {
-            alone-fits = alone n (length ts) r p.0;
+            alone_fits = alone n (length ts) r p.0;
             few = leb-true (length (asked r.state r.action (take (i + 1) rs))) 64 p.1;
             good = b;
             whole = eqb-true (total (run ts r)) 1000 c;
           }
 
   module _ (ok : first_fault n rs ts (length rs) ≡ None) where
-    pub all-fine : (i : ℕ) → i < length rs → Fine i
-    all-fine i l = fine i (none_below (length rs) i l ok)
+    pub all_fine : (i : ℕ) → i < length rs → Fine i
+    all_fine i l = fine i (none_below (length rs) i l ok)
 
-    pub longest-high : (j : ℕ) → j ≤ length rs → longest rs j ≤ 64
-    longest-high zero h = omega arith
-    longest-high (suc j) h = omega (arith, longest-high j (omega arith), (all-fine j h).alone-fits.small, (all-fine j h).few)
+    pub longest_high : (j : ℕ) → j ≤ length rs → longest rs j ≤ 64
+    longest_high zero h = omega arith
+    longest_high (suc j) h = omega (arith, longest_high j (omega arith), (all_fine j h).alone_fits.small, (all_fine j h).few)
 
-    pub all-sized : (i : ℕ) → i < length rs → ((row rs i).count ≤ longest rs (length rs)) × ((row rs i).first + (row rs i).count ≤ length ts)
-    all-sized i l = (count-below rs (length rs) i l, (all-fine i l).alone-fits.placed)
+    pub all_sized : (i : ℕ) → i < length rs → ((row rs i).count ≤ longest rs (length rs)) × ((row rs i).first + (row rs i).count ≤ length ts)
+    all_sized i l = (count_below rs (length rs) i l, (all_fine i l).alone_fits.placed)
 
     pub all-inside : (i : ℕ) (d : MoveRecord) → i < length rs → ((slice_index_or rs i d).state < n) × ((slice_index_or rs i d).action < 32)
     all-inside i d l =
         let P : MoveRecord → Type 0 = λ r. (r.state < n) × (r.action < 32) in
-        subst P (get_or_default rs i no_record d l) ((all-fine i l).alone-fits.inside, (all-fine i l).alone-fits.act)
+        subst P (get_or_default rs i no_record d l) ((all_fine i l).alone_fits.inside, (all_fine i l).alone_fits.act)
 
     -- what holds of each record holds of those of a state and an action
-    pub asked-all : (P : MoveRecord → Type 0) → ((i : ℕ) → i < length rs → P (row rs i)) → (k a : ℕ) → AllByRecursion P (asked k a rs)
-    asked-all P h k a = all_kept_by (asks k a) P rs (All-from_get_or P rs no_record h)
+    pub asked_all : (P : MoveRecord → Type 0) → ((i : ℕ) → i < length rs → P (row rs i)) → (k a : ℕ) → AllByRecursion P (asked k a rs)
+    asked_all P h k a = all_kept_by (asks k a) P rs (All-from_get_or P rs no_record h)
 
     -- no record is of a state or an action out of range
     none_of : (k a : ℕ) → ((r : MoveRecord) → (r.state < n) × (r.action < 32) → asks k a r ≢ true) → asked k a rs ≡ []
     none_of k a never =
-        no-element (asked k a rs) (λ r p q. never r p q) (asked-all (λ r. (r.state < n) × (r.action < 32)) (λ i l. all-inside i no_record l) k a) (kept_by_passes (asks k a) rs)
+        no_element (asked k a rs) (λ r p q. never r p q) (asked_all (λ r. (r.state < n) × (r.action < 32)) (λ i l. all-inside i no_record l) k a) (kept_by_passes (asks k a) rs)
       where
-        no-element : (xs : List MoveRecord) → ((r : MoveRecord) → (r.state < n) × (r.action < 32) → asks k a r ≢ true) → AllByRecursion (λ r. (r.state < n) × (r.action < 32)) xs → AllByRecursion (λ r. asks k a r ≡ true) xs → xs ≡ []
-        no-element [] h p q = refl
-        no-element (x ∷ xs) h p q = absurd (h x p.0 q.0)
+        no_element : (xs : List MoveRecord) → ((r : MoveRecord) → (r.state < n) × (r.action < 32) → asks k a r ≢ true) → AllByRecursion (λ r. (r.state < n) × (r.action < 32)) xs → AllByRecursion (λ r. asks k a r ≡ true) xs → xs ≡ []
+        no_element [] h p q = refl
+        no_element (x ∷ xs) h p q = absurd (h x p.0 q.0)
 
-    pub none-past : (k a : ℕ) → n ≤ k → asked k a rs ≡ []
-    none-past k a g = none_of k a (λ r p e. omega (arith, p.0, eqb-true r.state k (and_parts (r.state == k) (r.action == a) e).0))
+    pub none_past : (k a : ℕ) → n ≤ k → asked k a rs ≡ []
+    none_past k a g = none_of k a (λ r p e. omega (arith, p.0, eqb-true r.state k (and_parts (r.state == k) (r.action == a) e).0))
 
-    pub none-acts : (k a : ℕ) → 32 ≤ a → asked k a rs ≡ []
-    none-acts k a g = none_of k a (λ r p e. omega (arith, p.1, eqb-true r.action a (and_parts (r.state == k) (r.action == a) e).1))
+    pub none_acts : (k a : ℕ) → 32 ≤ a → asked k a rs ≡ []
+    none_acts k a g = none_of k a (λ r p e. omega (arith, p.1, eqb-true r.action a (and_parts (r.state == k) (r.action == a) e).1))
 
 -- tables that are not refused
 pub record Right (n : ℕ) (rs : List MoveRecord) (ts : List Target) : Type 0 where

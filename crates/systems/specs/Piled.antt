@@ -11,7 +11,7 @@ use Rattle.systems.specs.declared.system.Target.{Target}
 use Rattle.systems.specs.Meaning.{Meaning, Move, Ruled, Good, point}
 use Rattle.systems.specs.Piles.{cross, over, pair, moves_over, pile_moves}
 use Rattle.systems.specs.Fitted.{both}
-use Rattle.systems.specs.Cross.{length-cross, getD-cross}
+use Rattle.systems.specs.Cross.{length-cross, get_or_cross}
 
 pub both_none : (k : ℕ) (o : Option Target) → both k None o ≡ None
 both_none k (Some y) = refl
@@ -29,7 +29,7 @@ nth_pair k xs ys i pos = go (cases_lt i (length xs * length ys))
         let l' : i < length (pair k xs ys) = omega (arith, length-cross (over k) xs ys) in
         let q : i / length ys < length xs = div_below i (length ys) (length xs) pos l in
         let r : i % length ys < length ys = mod_below i (length ys) pos in
-        slice_get-get_or (pair k xs ys) i no_target l' ∙ ap Some (getD-cross (over k) xs ys i no_target no_target no_target l) ∙ rw (slice_get-get_or xs (i / length ys) no_target q, slice_get-get_or ys (i % length ys) no_target r) refl
+        slice_get-get_or (pair k xs ys) i no_target l' ∙ ap Some (get_or_cross (over k) xs ys i no_target no_target no_target l) ∙ rw (slice_get-get_or xs (i / length ys) no_target q, slice_get-get_or ys (i % length ys) no_target r) refl
     go (inr g) =
         let g' : length (pair k xs ys) ≤ i = omega (arith, length-cross (over k) xs ys) in
         let q : length xs ≤ i / length ys = le-div (length xs) i (length ys) pos g in
@@ -45,49 +45,49 @@ unfolding cross
 nil_cross f ys = refl
 
 module _ (A : ℕ → Bool) (U L : Meaning) where
-  pub inside-moves : (k a : ℕ) → k < U.states * L.states → pile_moves A U L k a ≡ moves_over A U L (k / L.states) (k % L.states) a
+  pub inside_moves : (k a : ℕ) → k < U.states * L.states → pile_moves A U L k a ≡ moves_over A U L (k / L.states) (k % L.states) a
   unfolding pile_moves
-  inside-moves k a h = cond-true _ _ _ (lt-ltb k (U.states * L.states) h)
+  inside_moves k a h = cond-true _ _ _ (lt-ltb k (U.states * L.states) h)
 
-  pub outside-moves : (k a : ℕ) → U.states * L.states ≤ k → pile_moves A U L k a ≡ []
+  pub outside_moves : (k a : ℕ) → U.states * L.states ≤ k → pile_moves A U L k a ≡ []
   unfolding pile_moves
-  outside-moves k a h = cond-false _ _ _ (le-ltb k (U.states * L.states) h)
+  outside_moves k a h = cond-false _ _ _ (le-ltb k (U.states * L.states) h)
 
   module _ (u v a : ℕ) where
-    pub shared-moves : A a ≡ true → moves_over A U L u v a ≡ cross (pair L.states) (U.moves u a) (L.moves v a)
+    pub shared_moves : A a ≡ true → moves_over A U L u v a ≡ cross (pair L.states) (U.moves u a) (L.moves v a)
     unfolding moves_over
-    shared-moves e = cond-true _ _ _ e
+    shared_moves e = cond-true _ _ _ e
 
-    pub apart-moves : A a ≡ false → moves_over A U L u v a ≡ map (λ mu. pair L.states mu (point L v)) (U.moves u a) ++ map (pair L.states (point U u)) (L.moves v a)
+    pub apart_moves : A a ≡ false → moves_over A U L u v a ≡ map (λ mu. pair L.states mu (point L v)) (U.moves u a) ++ map (pair L.states (point U u)) (L.moves v a)
     unfolding moves_over
-    apart-moves e = cond-false _ _ _ e
+    apart_moves e = cond-false _ _ _ e
 
-    pub shared-count : A a ≡ true → length (moves_over A U L u v a) ≡ length (U.moves u a) * length (L.moves v a)
-    shared-count e = ap length (shared-moves e) ∙ length-cross (pair L.states) (U.moves u a) (L.moves v a)
+    pub shared_count : A a ≡ true → length (moves_over A U L u v a) ≡ length (U.moves u a) * length (L.moves v a)
+    shared_count e = ap length (shared_moves e) ∙ length-cross (pair L.states) (U.moves u a) (L.moves v a)
 
     pub apart_count : A a ≡ false → length (moves_over A U L u v a) ≡ length (U.moves u a) + length (L.moves v a)
     apart_count e =
-        ap length (apart-moves e) ∙ length-append (map (λ mu. pair L.states mu (point L v)) (U.moves u a)) (map (pair L.states (point U u)) (L.moves v a))
+        ap length (apart_moves e) ∙ length-append (map (λ mu. pair L.states mu (point L v)) (U.moves u a)) (map (pair L.states (point U u)) (L.moves v a))
         ∙ omega (arith, length-map (U.moves u a) (λ mu. pair L.states mu (point L v)), length-map (L.moves v a) (pair L.states (point U u)))
 
-    pub shared-move : (i : ℕ) → A a ≡ true → 0 < length (L.moves v a) → slice_index_or (moves_over A U L u v a) i [] ≡ pair L.states (slice_index_or (U.moves u a) (i / length (L.moves v a)) []) (slice_index_or (L.moves v a) (i % length (L.moves v a)) [])
-    shared-move i e pos = rw (shared-moves e) (go (cases_lt i (length (U.moves u a) * length (L.moves v a))))
+    pub shared_move : (i : ℕ) → A a ≡ true → 0 < length (L.moves v a) → slice_index_or (moves_over A U L u v a) i [] ≡ pair L.states (slice_index_or (U.moves u a) (i / length (L.moves v a)) []) (slice_index_or (L.moves v a) (i % length (L.moves v a)) [])
+    shared_move i e pos = rw (shared_moves e) (go (cases_lt i (length (U.moves u a) * length (L.moves v a))))
       where
         go : (i < length (U.moves u a) * length (L.moves v a)) ⊎ (length (U.moves u a) * length (L.moves v a) ≤ i) → slice_index_or (cross (pair L.states) (U.moves u a) (L.moves v a)) i [] ≡ pair L.states (slice_index_or (U.moves u a) (i / length (L.moves v a)) []) (slice_index_or (L.moves v a) (i % length (L.moves v a)) [])
-        go (inl l) = getD-cross (pair L.states) (U.moves u a) (L.moves v a) i [] [] [] l
+        go (inl l) = get_or_cross (pair L.states) (U.moves u a) (L.moves v a) i [] [] [] l
         go (inr g) =
             let g' : length (cross (pair L.states) (U.moves u a) (L.moves v a)) ≤ i = omega (arith, length-cross (pair L.states) (U.moves u a) (L.moves v a)) in
             let q : length (U.moves u a) ≤ i / length (L.moves v a) = le-div (length (U.moves u a)) i (length (L.moves v a)) pos g in
             get_or_past (cross (pair L.states) (U.moves u a) (L.moves v a)) i [] g' ∙ rw (get_or_past (U.moves u a) (i / length (L.moves v a)) [] q) (sym (nil_cross (over L.states) (slice_index_or (L.moves v a) (i % length (L.moves v a)) [])))
 
-    pub upper-move : (i : ℕ) → A a ≡ false → i < length (U.moves u a) → slice_index_or (moves_over A U L u v a) i [] ≡ pair L.states (slice_index_or (U.moves u a) i []) (point L v)
-    upper-move i e l =
+    pub upper_move : (i : ℕ) → A a ≡ false → i < length (U.moves u a) → slice_index_or (moves_over A U L u v a) i [] ≡ pair L.states (slice_index_or (U.moves u a) i []) (point L v)
+    upper_move i e l =
         let l' : i < length (map (λ mu. pair L.states mu (point L v)) (U.moves u a)) = omega (arith, length-map (U.moves u a) (λ mu. pair L.states mu (point L v))) in
-        rw (apart-moves e) (get_or_append_left (map (λ mu. pair L.states mu (point L v)) (U.moves u a)) (map (pair L.states (point U u)) (L.moves v a)) [] i l' ∙ get_or-map (λ mu. pair L.states mu (point L v)) (U.moves u a) i [] [] l)
+        rw (apart_moves e) (get_or_append_left (map (λ mu. pair L.states mu (point L v)) (U.moves u a)) (map (pair L.states (point U u)) (L.moves v a)) [] i l' ∙ get_or-map (λ mu. pair L.states mu (point L v)) (U.moves u a) i [] [] l)
 
-    pub lower-move : (i : ℕ) → A a ≡ false → length (U.moves u a) ≤ i → slice_index_or (moves_over A U L u v a) i [] ≡ pair L.states (point U u) (slice_index_or (L.moves v a) (i - length (U.moves u a)) [])
-    lower-move i e g =
-        rw (apart-moves e)
+    pub lower_move : (i : ℕ) → A a ≡ false → length (U.moves u a) ≤ i → slice_index_or (moves_over A U L u v a) i [] ≡ pair L.states (point U u) (slice_index_or (L.moves v a) (i - length (U.moves u a)) [])
+    lower_move i e g =
+        rw (apart_moves e)
         (get_or-append_right (map (λ mu. pair L.states mu (point L v)) (U.moves u a)) (map (pair L.states (point U u)) (L.moves v a)) (length (U.moves u a)) i [] (length-map (U.moves u a) (λ mu. pair L.states mu (point L v))) g
         ∙ go (cases_lt (i - length (U.moves u a)) (length (L.moves v a))))
       where

@@ -11,8 +11,8 @@ use Rattle.systems.specs.declared.system.Target.{Target}
 use Rattle.systems.specs.Meaning.{Meaning, Move, Ruled, Sound, Between, Good, Aimed, point}
 use Rattle.systems.specs.Piles.{over, pair, moves_over, pile_moves, pile}
 use Rattle.systems.specs.Fitted.{fitted, agrees}
-use Rattle.systems.specs.Cross.{length-cross, all_cross, sum-cross}
-use Rattle.systems.specs.Piled.{inside-moves, outside-moves, shared-moves, apart-moves, shared-count, apart_count, nil_cross}
+use Rattle.systems.specs.Cross.{length-cross, all_cross, sum_cross}
+use Rattle.systems.specs.Piled.{inside_moves, outside_moves, shared_moves, apart_moves, shared_count, apart_count, nil_cross}
 
 pub sum_le_product : (a b x y : ℕ) → 2 ≤ a → 2 ≤ b → x ≤ a → y ≤ b → x + y ≤ a * b
 sum_le_product a b x y ha hb hx hy =
@@ -28,76 +28,76 @@ good_point S s k h = record {
 }
 
 module _ (U L : Meaning) where
-  pub good-pair : (mu ml : Move) → Good U.states U.mass U.breadth mu → Good L.states L.mass L.breadth ml → Good (U.states * L.states) (U.mass * L.mass) (U.breadth * L.breadth) (pair L.states mu ml)
-  good-pair mu ml g h = record {
+  pub good_pair : (mu ml : Move) → Good U.states U.mass U.breadth mu → Good L.states L.mass L.breadth ml → Good (U.states * L.states) (U.mass * L.mass) (U.breadth * L.breadth) (pair L.states mu ml)
+  good_pair mu ml g h = record {
     short = subst (λ (n : ℕ). n ≤ U.breadth * L.breadth) (sym (length-cross (over L.states) mu ml)) (mul-le-mul g.short h.short);
     aimed =
         all_cross (over L.states) (Aimed U.states) (Aimed L.states) (Aimed (U.states * L.states))
         (λ x y p q. record { inside = digits_lt p.inside q.inside; heavy = one-le-mul p.heavy q.heavy })
         mu ml g.aimed h.aimed;
     whole =
-        sum-cross (over L.states) (λ (t : Target). t.weight) (λ (t : Target). t.weight) (λ (t : Target). t.weight) (λ x y. refl) mu ml
+        sum_cross (over L.states) (λ (t : Target). t.weight) (λ (t : Target). t.weight) (λ (t : Target). t.weight) (λ x y. refl) mu ml
         ∙ ap₂ ◌*◌ g.whole h.whole;
   }
 
 module _ (A : ℕ → Bool) (U L : Meaning) (su : Ruled U) (sl : Ruled L) where
-  no-moves : (u v a : ℕ) → 32 ≤ a → moves_over A U L u v a ≡ []
-  no-moves u v a h = go (cases_Bool (A a))
+  no_moves : (u v a : ℕ) → 32 ≤ a → moves_over A U L u v a ≡ []
+  no_moves u v a h = go (cases_Bool (A a))
     where
       go : (A a ≡ true) ⊎ (A a ≡ false) → moves_over A U L u v a ≡ []
-      go (inl e) = rw (shared-moves A U L u v a e, su.past_actions u a h) (nil_cross (pair L.states) (L.moves v a))
-      go (inr e) = rw (apart-moves A U L u v a e, su.past_actions u a h, sl.past_actions v a h) refl
+      go (inl e) = rw (shared_moves A U L u v a e, su.past_actions u a h) (nil_cross (pair L.states) (L.moves v a))
+      go (inr e) = rw (apart_moves A U L u v a e, su.past_actions u a h, sl.past_actions v a h) refl
 
-  few-moves : (u v a : ℕ) → length (moves_over A U L u v a) ≤ U.breadth * L.breadth
-  few-moves u v a = go (cases_Bool (A a))
+  few_moves : (u v a : ℕ) → length (moves_over A U L u v a) ≤ U.breadth * L.breadth
+  few_moves u v a = go (cases_Bool (A a))
     where
       go : (A a ≡ true) ⊎ (A a ≡ false) → length (moves_over A U L u v a) ≤ U.breadth * L.breadth
-      go (inl e) = rw (shared-count A U L u v a e) (mul-le-mul (su.few u a) (sl.few v a))
+      go (inl e) = rw (shared_count A U L u v a e) (mul-le-mul (su.few u a) (sl.few v a))
       go (inr e) = rw (apart_count A U L u v a e) (sum_le_product U.breadth L.breadth (length (U.moves u a)) (length (L.moves v a)) su.breadth_low sl.breadth_low (su.few u a) (sl.few v a))
 
-  good-moves : (u v a : ℕ) → u < U.states → v < L.states → AllByRecursion (Good (U.states * L.states) (U.mass * L.mass) (U.breadth * L.breadth)) (moves_over A U L u v a)
-  good-moves u v a hu hv = go (cases_Bool (A a))
+  good_moves : (u v a : ℕ) → u < U.states → v < L.states → AllByRecursion (Good (U.states * L.states) (U.mass * L.mass) (U.breadth * L.breadth)) (moves_over A U L u v a)
+  good_moves u v a hu hv = go (cases_Bool (A a))
     where
       go : (A a ≡ true) ⊎ (A a ≡ false) → AllByRecursion (Good (U.states * L.states) (U.mass * L.mass) (U.breadth * L.breadth)) (moves_over A U L u v a)
       go (inl e) =
-          rw (shared-moves A U L u v a e)
+          rw (shared_moves A U L u v a e)
           (all_cross (pair L.states) (Good U.states U.mass U.breadth) (Good L.states L.mass L.breadth) (Good (U.states * L.states) (U.mass * L.mass) (U.breadth * L.breadth))
-          (good-pair U L) (U.moves u a) (L.moves v a) (su.each u a) (sl.each v a))
+          (good_pair U L) (U.moves u a) (L.moves v a) (su.each u a) (sl.each v a))
       go (inr e) =
-          rw (apart-moves A U L u v a e)
+          rw (apart_moves A U L u v a e)
           (All-append (Good (U.states * L.states) (U.mass * L.mass) (U.breadth * L.breadth))
           (map (λ mu. pair L.states mu (point L v)) (U.moves u a)) (map (pair L.states (point U u)) (L.moves v a))
           (All-map (Good (U.states * L.states) (U.mass * L.mass) (U.breadth * L.breadth)) (λ mu. pair L.states mu (point L v)) (U.moves u a)
-          (All-weaker (Good U.states U.mass U.breadth) (λ mu. Good (U.states * L.states) (U.mass * L.mass) (U.breadth * L.breadth) (pair L.states mu (point L v))) (λ mu g. good-pair U L mu (point L v) g (good_point L sl v hv)) (U.moves u a) (su.each u a)))
+          (All-weaker (Good U.states U.mass U.breadth) (λ mu. Good (U.states * L.states) (U.mass * L.mass) (U.breadth * L.breadth) (pair L.states mu (point L v))) (λ mu g. good_pair U L mu (point L v) g (good_point L sl v hv)) (U.moves u a) (su.each u a)))
           (All-map (Good (U.states * L.states) (U.mass * L.mass) (U.breadth * L.breadth)) (pair L.states (point U u)) (L.moves v a)
-          (All-weaker (Good L.states L.mass L.breadth) (λ ml. Good (U.states * L.states) (U.mass * L.mass) (U.breadth * L.breadth) (pair L.states (point U u) ml)) (λ ml g. good-pair U L (point U u) ml (good_point U su u hu) g) (L.moves v a) (sl.each v a))))
+          (All-weaker (Good L.states L.mass L.breadth) (λ ml. Good (U.states * L.states) (U.mass * L.mass) (U.breadth * L.breadth) (pair L.states (point U u) ml)) (λ ml g. good_pair U L (point U u) ml (good_point U su u hu) g) (L.moves v a) (sl.each v a))))
 
-  pub lower-some : 0 < L.states
-  lower-some = omega (arith, sl.states_low)
+  pub lower_some : 0 < L.states
+  lower_some = omega (arith, sl.states_low)
 
-  pub upper-below : (k : ℕ) → k < U.states * L.states → k / L.states < U.states
-  upper-below k h = div_below k L.states U.states lower-some h
+  pub upper_below : (k : ℕ) → k < U.states * L.states → k / L.states < U.states
+  upper_below k h = div_below k L.states U.states lower_some h
 
-  pub lower-below : (k : ℕ) → k % L.states < L.states
-  lower-below k = mod_below k L.states lower-some
+  pub lower_below : (k : ℕ) → k % L.states < L.states
+  lower_below k = mod_below k L.states lower_some
 
   -- a fact of moves that holds inside and of none
-  by-range : (P : List Move → Type 0) (k a : ℕ) → (k < U.states * L.states → P (moves_over A U L (k / L.states) (k % L.states) a)) → P [] → P (pile_moves A U L k a)
-  by-range P k a inside outside = go (cases_lt k (U.states * L.states))
+  by_range : (P : List Move → Type 0) (k a : ℕ) → (k < U.states * L.states → P (moves_over A U L (k / L.states) (k % L.states) a)) → P [] → P (pile_moves A U L k a)
+  by_range P k a inside outside = go (cases_lt k (U.states * L.states))
     where
       go : (k < U.states * L.states) ⊎ (U.states * L.states ≤ k) → P (pile_moves A U L k a)
-      go (inl l) = subst P (sym (inside-moves A U L k a l)) (inside l)
-      go (inr g) = subst P (sym (outside-moves A U L k a g)) outside
+      go (inl l) = subst P (sym (inside_moves A U L k a l)) (inside l)
+      go (inr g) = subst P (sym (outside_moves A U L k a g)) outside
 
-  pub ruled-pile : Ruled (pile A U L)
-  ruled-pile = record {
+  pub ruled_pile : Ruled (pile A U L)
+  ruled_pile = record {
     states_low = one-le-mul su.states_low sl.states_low;
     mass_low = one-le-mul su.mass_low sl.mass_low;
     breadth_low = sum_le_product U.breadth L.breadth 0 2 su.breadth_low sl.breadth_low (omega arith) sl.breadth_low;
-    past_states = outside-moves A U L;
-    past_actions = λ k a h. by-range (λ ms. ms ≡ []) k a (λ _. no-moves (k / L.states) (k % L.states) a h) refl;
-    few = λ k a. by-range (λ ms. length ms ≤ U.breadth * L.breadth) k a (λ _. few-moves (k / L.states) (k % L.states) a) (omega arith);
-    each = λ k a. by-range (AllByRecursion (Good (U.states * L.states) (U.mass * L.mass) (U.breadth * L.breadth))) k a (λ h. good-moves (k / L.states) (k % L.states) a (upper-below k h) (lower-below k)) tt;
+    past_states = outside_moves A U L;
+    past_actions = λ k a h. by_range (λ ms. ms ≡ []) k a (λ _. no_moves (k / L.states) (k % L.states) a h) refl;
+    few = λ k a. by_range (λ ms. length ms ≤ U.breadth * L.breadth) k a (λ _. few_moves (k / L.states) (k % L.states) a) (omega arith);
+    each = λ k a. by_range (AllByRecursion (Good (U.states * L.states) (U.mass * L.mass) (U.breadth * L.breadth))) k a (λ h. good_moves (k / L.states) (k % L.states) a (upper_below k h) (lower_below k)) tt;
   }
 
 -- a fact of the moves of a fitted meaning
@@ -128,11 +128,11 @@ ruled_fitted n m b S n1 m1 b1 s = record {
   past_states = λ k a h. fitted_by n m b S (λ ms. ms ≡ []) k a (λ e. (s e).past_states k a (omega (arith, (same_numbers n m b S e).states_same))) refl;
   past_actions = λ k a h. fitted_by n m b S (λ ms. ms ≡ []) k a (λ e. (s e).past_actions k a h) refl;
   few = λ k a. fitted_by n m b S (λ ms. length ms ≤ b) k a (λ e. subst (λ (x : ℕ). length (S.moves k a) ≤ x) (same_numbers n m b S e).breadth_same ((s e).few k a)) (omega arith);
-  each = λ k a. fitted_by n m b S (AllByRecursion (Good n m b)) k a (λ e. at-numbers e k a) tt;
+  each = λ k a. fitted_by n m b S (AllByRecursion (Good n m b)) k a (λ e. at_numbers e k a) tt;
 }
   where
-    at-numbers : agrees n m b S ≡ true → (k a : ℕ) → AllByRecursion (Good n m b) (S.moves k a)
-    at-numbers e k a =
+    at_numbers : agrees n m b S ≡ true → (k a : ℕ) → AllByRecursion (Good n m b) (S.moves k a)
+    at_numbers e k a =
         subst (λ (x : ℕ). AllByRecursion (Good x m b) (S.moves k a)) (same_numbers n m b S e).states_same
         (subst (λ (y : ℕ). AllByRecursion (Good S.states y b) (S.moves k a)) (same_numbers n m b S e).mass_same
         (subst (λ (z : ℕ). AllByRecursion (Good S.states S.mass z) (S.moves k a)) (same_numbers n m b S e).breadth_same ((s e).each k a)))
@@ -140,6 +140,6 @@ ruled_fitted n m b S n1 m1 b1 s = record {
 -- a fitted pile keeps the rules with no condition on the pile, and the limits where its own numbers do
 pub sound_piled : (A : ℕ → Bool) (n m b : ℕ) (U L : Meaning) → Ruled U → Ruled L → Between 1 1073741824 n → Between 1 1000000000000000 m → Between 2 1073741824 b → Sound (fitted n m b (pile A U L))
 sound_piled A n m b U L ru rl hn hm hb = record {
-  ruled = ruled_fitted n m b (pile A U L) hn.0 hm.0 hb.0 (λ e. ruled-pile A U L ru rl);
+  ruled = ruled_fitted n m b (pile A U L) hn.0 hm.0 hb.0 (λ e. ruled_pile A U L ru rl);
   limited = record { states_high = hn.1; mass_high = hm.1; breadth_high = hb.1 };
 }

@@ -42,20 +42,20 @@ module _ (k a : ℕ) (rs : List MoveRecord) (i n : ℕ) (d : MoveRecord) (l : i 
   more : length (asked k a (take (i + 1) rs)) ≡ n + length (cond (asks k a (slice_index_or rs i d)) (slice_index_or rs i d ∷ []) [])
   more = ap length (filter_more (asks k a) rs i d l) ∙ length-append (asked k a (take i rs)) (cond (asks k a (slice_index_or rs i d)) (slice_index_or rs i d ∷ []) []) ∙ ap (λ x. x + length (cond (asks k a (slice_index_or rs i d)) (slice_index_or rs i d ∷ []) [])) (sym inv)
 
-  pub count-hit : asks k a (slice_index_or rs i d) ≡ true → n + 1 ≡ length (asked k a (take (i + 1) rs))
-  count-hit e = sym (more ∙ ap (λ (ys : List MoveRecord). n + length ys) (cond-true (asks k a (slice_index_or rs i d)) (slice_index_or rs i d ∷ []) [] e))
+  pub count_hit : asks k a (slice_index_or rs i d) ≡ true → n + 1 ≡ length (asked k a (take (i + 1) rs))
+  count_hit e = sym (more ∙ ap (λ (ys : List MoveRecord). n + length ys) (cond-true (asks k a (slice_index_or rs i d)) (slice_index_or rs i d ∷ []) [] e))
 
-  pub count-miss : asks k a (slice_index_or rs i d) ≡ false → n ≡ length (asked k a (take (i + 1) rs))
-  count-miss e = sym (more ∙ ap (λ (ys : List MoveRecord). n + length ys) (cond-false (asks k a (slice_index_or rs i d)) (slice_index_or rs i d ∷ []) [] e) ∙ add-zero n)
+  pub count_miss : asks k a (slice_index_or rs i d) ≡ false → n ≡ length (asked k a (take (i + 1) rs))
+  count_miss e = sym (more ∙ ap (λ (ys : List MoveRecord). n + length ys) (cond-false (asks k a (slice_index_or rs i d)) (slice_index_or rs i d ∷ []) [] e) ∙ add-zero n)
 
 -- the targets of a run, one by one
 module _ (n : ℕ) (ts : List Target) (i : ℕ) (d : Target) (l : i < length ts) where
   run_step : good_run n (drop i ts) ≡ (good_target n (slice_index_or ts i d) && good_run n (drop (i + 1) ts))
   run_step = ap (good_run n) (drop_more ts i d l)
 
-  pub run-good : (get_or ts i d).state < n → 1 ≤ (get_or ts i d).weight → good_run n (drop i ts) ≡ good_run n (drop (i + 1) ts)
-  run-good p q = run_step ∙ ap (λ (b : Bool). b && good_run n (drop (i + 1) ts)) (and_from (nat_lt (get_or ts i d).state n) (nat_le 1 (get_or ts i d).weight) (lt-ltb (get_or ts i d).state n p) (le-leb 1 (get_or ts i d).weight q))
+  pub run_good : (get_or ts i d).state < n → 1 ≤ (get_or ts i d).weight → good_run n (drop i ts) ≡ good_run n (drop (i + 1) ts)
+  run_good p q = run_step ∙ ap (λ (b : Bool). b && good_run n (drop (i + 1) ts)) (and_from (nat_lt (get_or ts i d).state n) (nat_le 1 (get_or ts i d).weight) (lt-ltb (get_or ts i d).state n p) (le-leb 1 (get_or ts i d).weight q))
 
-  pub run-bad : (n ≤ (get_or ts i d).state) ⊎ ((get_or ts i d).weight < 1) → good_run n (drop i ts) ≡ false
-  run-bad (inl p) = run_step ∙ and_left (good_target n (slice_index_or ts i d)) (good_run n (drop (i + 1) ts)) (and_left (nat_lt (get_or ts i d).state n) (nat_le 1 (get_or ts i d).weight) (le-ltb (get_or ts i d).state n p))
-  run-bad (inr p) = run_step ∙ and_left (good_target n (slice_index_or ts i d)) (good_run n (drop (i + 1) ts)) (and_right (nat_lt (get_or ts i d).state n) (nat_le 1 (get_or ts i d).weight) (lt-leb 1 (get_or ts i d).weight p))
+  pub run_bad : (n ≤ (get_or ts i d).state) ⊎ ((get_or ts i d).weight < 1) → good_run n (drop i ts) ≡ false
+  run_bad (inl p) = run_step ∙ and_left (good_target n (slice_index_or ts i d)) (good_run n (drop (i + 1) ts)) (and_left (nat_lt (get_or ts i d).state n) (nat_le 1 (get_or ts i d).weight) (le-ltb (get_or ts i d).state n p))
+  run_bad (inr p) = run_step ∙ and_left (good_target n (slice_index_or ts i d)) (good_run n (drop (i + 1) ts)) (and_right (nat_lt (get_or ts i d).state n) (nat_le 1 (get_or ts i d).weight) (lt-leb 1 (get_or ts i d).weight p))

@@ -3,7 +3,7 @@ use Rattle.formulas.specs.Lines.{entries}
 use Rattle.formulas.specs.Truths.{of_node}
 use Rattle.claims.specs.Rows.{Clear}
 use Rattle.claims.specs.Boards.{truths_in, Board}
-use Rattle.claims.proofs.Anys.{some_of, any-hit, any-miss, any_none}
+use Rattle.claims.proofs.Anys.{some_of, any_hit, any_miss, any_none}
 use Rattle.claims.proofs.judge.some_move.Goals as goal
 
 pub some_holds-requires : goal.some_holds-requires
@@ -24,7 +24,7 @@ returns-then-some_holds g c =
     let mvs = M.moves c.args.state c.args.action in
     let h : c.loop-place.place < length mvs = omega (arith, c.moves-count.ensures) in
     record {
-      value = any-hit p mvs c.loop-place.place [] c.loop-place.invariant.0 h (sym c.if-some_holds.ensures.value);
+      value = any_hit p mvs c.loop-place.place [] c.loop-place.invariant.0 h (sym c.if-some_holds.ensures.value);
       row = c.some_holds.ensures.row ∙ c.loop-place.invariant.1;
     }
 
@@ -34,7 +34,7 @@ loop-place-preserved g c =
     let p = some_of (of_node (truths_in M c.args.tables)) (entries c.args.tables.alternatives.now c.args.run) in
     let mvs = M.moves c.args.state c.args.action in
     let h : c.loop-place.place < length mvs = omega (arith, c.moves-count.ensures) in (
-      any-miss p mvs c.loop-place.place [] c.loop-place.invariant.0 h (sym c.if-some_holds.ensures.value),
+      any_miss p mvs c.loop-place.place [] c.loop-place.invariant.0 h (sym c.if-some_holds.ensures.value),
       c.some_holds.ensures.row ∙ c.loop-place.invariant.1,
     )
 

@@ -2,7 +2,7 @@ use Rattle.std.proofs.Common.{◌*◌, Err, sym, ap, refl, ◌∙◌, ap₂, ari
 use native.Mathlib.Nat.{one-le-mul}
 use Rattle.formulas.specs.Tables.{slots}
 use Rattle.claims.specs.Books.{contents}
-use Rattle.claims.proofs.Removing.{light, few, as-claimed, removes}
+use Rattle.claims.proofs.Removing.{light, few, as_claimed, removes}
 use Rattle.claims.proofs.remove.answer.Goals as goal
 
 pub overflow_mul-removed : goal.overflow_mul-removed
@@ -10,7 +10,7 @@ overflow_mul-removed g c =
     let R = g.S.System.meaning c.args.system.now in
     let s = contents c.args.tables in
     let second = slots c.args.nodes.now c.args.terms.now c.args.alternatives.now in
-    let done = sym (as-claimed R c.args.claim s second _ _ _ _ c.fills.ensures c.root.ensures c.mass-mass.ensures c.shared-shared.ensures) ∙ sym c.in-Ok.ensures.value in
+    let done = sym (as_claimed R c.args.claim s second _ _ _ _ c.fills.ensures c.root.ensures c.mass-mass.ensures c.shared-shared.ensures) ∙ sym c.in-Ok.ensures.value in
     omega (arith, ap₂ ◌*◌ c.mass-mass.ensures c.mass.ensures, light R c.args.claim s second c.in-Ok.left done)
 
 pub new-requires : goal.new-requires
@@ -18,7 +18,7 @@ new-requires g c =
     let R = g.S.System.meaning c.args.system.now in
     let s = contents c.args.tables in
     let second = slots c.args.nodes.now c.args.terms.now c.args.alternatives.now in
-    let done = sym (as-claimed R c.args.claim s second _ _ _ _ c.fills.ensures c.root.ensures c.mass-mass.ensures c.shared-shared.ensures) ∙ sym c.in-Ok.ensures.value in
+    let done = sym (as_claimed R c.args.claim s second _ _ _ _ c.fills.ensures c.root.ensures c.mass-mass.ensures c.shared-shared.ensures) ∙ sym c.in-Ok.ensures.value in
     let product = ap₂ ◌*◌ c.mass-mass.ensures c.mass.ensures in
     record {
       few = few R c.args.claim s second c.in-Ok.left done;
@@ -44,7 +44,7 @@ returns-in-Err g c =
     let s = contents c.args.tables in
     let second = slots c.args.nodes.now c.args.terms.now c.args.alternatives.now in
     record {
-      refused = sym (as-claimed R c.args.claim s second _ _ _ _ c.fills.ensures c.root.ensures c.mass-mass.ensures c.shared-shared.ensures) ∙ sym c.in-Err.ensures.value ∙ ap Err (sym c.of.ensures);
+      refused = sym (as_claimed R c.args.claim s second _ _ _ _ c.fills.ensures c.root.ensures c.mass-mass.ensures c.shared-shared.ensures) ∙ sym c.in-Err.ensures.value ∙ ap Err (sym c.of.ensures);
       claim = refl;
       tables = c.in-Err.ensures.tables;
     }

@@ -3,7 +3,7 @@ use Rattle.std.specs.List.{AllByRecursion}
 use Rattle.std.proofs.lemmas.List.{take_all}
 use Rattle.std.proofs.ByRecursion.{All-get_or, All-weaker}
 use Rattle.claims.specs.Rows.{marked}
-use Rattle.claims.proofs.Marks.{mark-more, around-more}
+use Rattle.claims.proofs.Marks.{mark-more, around_more}
 use Rattle.claims.proofs.row.mark.Goals as goal
 
 pub bounds-row-place : goal.bounds-row-place
@@ -17,7 +17,7 @@ loop-d-preserved c =
     let wanted = c.args.wanted.now in
     let near = All-get_or (λ d. d < c.args.upto) wanted i 0 c.loop-d-test.true c.requires.before in (
       mark-more wanted i c.loop-d-test.true c.args.row.now c.loop-d.row c.loop-d.invariant.0,
-      around-more wanted i c.loop-d-test.true c.loop-d.low c.loop-d.high _ _ c.min-low.ensures c.max-high.ensures c.loop-d.invariant.1,
+      around_more wanted i c.loop-d-test.true c.loop-d.low c.loop-d.high _ _ c.min-low.ensures c.max-high.ensures c.loop-d.invariant.1,
       omega (arith, near, c.max-high.ensures, c.loop-d.invariant.2),
     )
 

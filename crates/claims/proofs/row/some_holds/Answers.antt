@@ -6,7 +6,7 @@ use Rattle.claims.specs.Spots.{spot_of}
 use Rattle.claims.specs.Rows.{Mark}
 use Rattle.claims.specs.Boards.{truths_in}
 use Rattle.claims.proofs.Truthful.{sits_parted}
-use Rattle.claims.proofs.Reached.{sliced, reached-any, reached-clear}
+use Rattle.claims.proofs.Reached.{sliced, reached-any, reached_clear}
 use Rattle.claims.proofs.row.some_holds.Goals as goal
 
 pub reach-span-requires : goal.reach-span-requires
@@ -61,5 +61,5 @@ returns g c =
     let span = c.reach-span.result in
     record {
       value = reached-any t.nodes.now wanted c.args.row.now c.reach-span.new.row c.fill.new.row c.args.upto span.low span.high c.requires.clear c.reach-span.ensures T mv c.fill.ensures _ c.some_lit-answer.ensures ∙ ap (any (λ d. of_node T d mv)) (sliced t.alternatives.now run);
-      row = reached-clear t.nodes.now wanted c.args.row.now c.reach-span.new.row c.fill.new.row c.args.upto span.low span.high c.requires.clear c.reach-span.ensures T mv c.fill.ensures c.clear.new.row (omega (arith, c.reach-span.auto.row, c.fill.auto.row, c.clear.auto.row)) c.clear.ensures;
+      row = reached_clear t.nodes.now wanted c.args.row.now c.reach-span.new.row c.fill.new.row c.args.upto span.low span.high c.requires.clear c.reach-span.ensures T mv c.fill.ensures c.clear.new.row (omega (arith, c.reach-span.auto.row, c.fill.auto.row, c.clear.auto.row)) c.clear.ensures;
     }

@@ -1,7 +1,7 @@
 use Rattle.std.proofs.Common.{◌-◌, ◌<◌, length, get_or, refl, arith}
 use Rattle.std.proofs.ByRecursion.{All-weaker}
 use Rattle.claims.specs.Rows.{parts, no_node}
-use Rattle.claims.proofs.Marks.{spread-on, spread-off}
+use Rattle.claims.proofs.Marks.{spread_on, spread_off}
 use Rattle.claims.proofs.row.spread.Goals as goal
 
 pub loop-low-init : goal.loop-low-init
@@ -23,13 +23,13 @@ mark_parts-low-requires c =
 
 pub loop-low-preserved-then-row-j-eq-MARK : goal.loop-low-preserved-then-row-j-eq-MARK
 loop-low-preserved-then-row-j-eq-MARK c = (
-  spread-on c.args.nodes.now c.requires.parted c.args.span.low c.loop-low.low c.args.span.high (c.loop-low.j - 1) c.loop-low.j c.args.row.now c.loop-low.row c.loop-low.invariant.0 (omega arith) (omega (arith, c.loop-low.invariant.1)) c.requires.inside _ _ (omega (arith, c.requires.long, c.loop-low.auto.row)) c.mark_parts-low.ensures.low c.mark_parts-low.ensures.row,
+  spread_on c.args.nodes.now c.requires.parted c.args.span.low c.loop-low.low c.args.span.high (c.loop-low.j - 1) c.loop-low.j c.args.row.now c.loop-low.row c.loop-low.invariant.0 (omega arith) (omega (arith, c.loop-low.invariant.1)) c.requires.inside _ _ (omega (arith, c.requires.long, c.loop-low.auto.row)) c.mark_parts-low.ensures.low c.mark_parts-low.ensures.row,
   omega (arith, c.loop-low.invariant.1),
 )
 
 pub loop-low-preserved : goal.loop-low-preserved
 loop-low-preserved c = (
-  spread-off c.args.nodes.now c.requires.parted c.args.span.low c.loop-low.low c.args.span.high (c.loop-low.j - 1) c.loop-low.j c.args.row.now c.loop-low.row c.loop-low.invariant.0 (omega arith) (omega (arith, c.loop-low.invariant.1)) c.requires.inside c.if-row-j-eq-MARK.false,
+  spread_off c.args.nodes.now c.requires.parted c.args.span.low c.loop-low.low c.args.span.high (c.loop-low.j - 1) c.loop-low.j c.args.row.now c.loop-low.row c.loop-low.invariant.0 (omega arith) (omega (arith, c.loop-low.invariant.1)) c.requires.inside c.if-row-j-eq-MARK.false,
   omega (arith, c.loop-low.invariant.1),
 )
 

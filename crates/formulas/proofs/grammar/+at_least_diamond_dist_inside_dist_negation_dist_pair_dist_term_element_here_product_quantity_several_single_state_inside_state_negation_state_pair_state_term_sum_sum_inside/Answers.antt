@@ -1,7 +1,7 @@
 use Rattle.std.proofs.Common.{refl, arith, rules}
 use Rattle.formulas.proofs.Parsing.{term-starts, sum_starts_as, quantity_starts, element_full, element_open, number-within}
 use Rattle.formulas.proofs.Storing.{leaf-wrote, neg-wrote, conj-wrote, dia-wrote, here-wrote, at_least_wrote, none_summed, one_summed}
-use Rattle.formulas.proofs.Summing.{partly_none, partly-end, partly-stopped, partly-refused, partly_more}
+use Rattle.formulas.proofs.Summing.{partly_none, partly_end, partly_stopped, partly_refused, partly_more}
 use Rattle.formulas.proofs.Taking.{nothing_read, refused-first, known, as_if, stopped, and_so, and_as, and_then}
 use Rattle.formulas.proofs.grammar.+at_least_diamond_dist_inside_dist_negation_dist_pair_dist_term_element_here_product_quantity_several_single_state_inside_state_negation_state_pair_state_term_sum_sum_inside.Goals as goal
 
@@ -190,19 +190,19 @@ pub several-returns-in_err-x : goal.several-returns-in_err-x
 several-returns-in_err-x t c =
     record {
       lent = search rules;
-      took = partly-stopped c.loop-x.invariant.3 _ c.in_err-x.ensures c.from_residual.ensures;
+      took = partly_stopped c.loop-x.invariant.3 _ c.in_err-x.ensures c.from_residual.ensures;
     }
 
 pub several-returns-in_err-term : goal.several-returns-in_err-term
 several-returns-in_err-term t c =
     record {
       lent = search rules;
-      took = partly-refused c.loop-x.invariant.3 (known c.in_ok-x.ensures c.in-Some.is) _ c.in_err-term.ensures.took c.from_residual-in_err-term.ensures;
+      took = partly_refused c.loop-x.invariant.3 (known c.in_ok-x.ensures c.in-Some.is) _ c.in_err-term.ensures.took c.from_residual-in_err-term.ensures;
     }
 
 pub several-returns : goal.several-returns
 several-returns t c =
     record {
       lent = search rules;
-      took = partly-end c.loop-x.invariant.3 (known c.in_ok-x.ensures c.in_default.is);
+      took = partly_end c.loop-x.invariant.3 (known c.in_ok-x.ensures c.in_default.is);
     }

@@ -2,12 +2,12 @@ use Rattle.std.proofs.Common.{vec_items, rc_value, ap, ◌∙◌}
 use Rattle.systems.specs.Any.{any_meaning}
 use Rattle.qcheck.specs.declared.stack.Answer.TheVariants.{Refused}
 use Rattle.qcheck.specs.Answers.{refused}
-use Rattle.qcheck.proofs.Towers.{told-piled, answer-refused}
+use Rattle.qcheck.proofs.Towers.{told_piled, answer-refused}
 use Rattle.qcheck.proofs.stack.judge_over.Goals as goal
 
 pub returns-in-Ok : goal.returns-in-Ok
 returns-in-Ok c =
-    told-piled (vec_items c.args.stack.now) _ c.in-Some.upper c.shared.result (any_meaning (rc_value c.args.lowest)) c.args.bench.now.claim.now c.args.bench.now.tables c.in-Some.ensures.items c.shared.ensures _ c.judge_two.result c.in-Ok.ensures.0 c.in-Ok.ensures.1 c.judge_two.ensures
+    told_piled (vec_items c.args.stack.now) _ c.in-Some.upper c.shared.result (any_meaning (rc_value c.args.lowest)) c.args.bench.now.claim.now c.args.bench.now.tables c.in-Some.ensures.items c.shared.ensures _ c.judge_two.result c.in-Ok.ensures.0 c.in-Ok.ensures.1 c.judge_two.ensures
 
 pub returns : goal.returns
 returns c =

@@ -1,12 +1,12 @@
 use Rattle.std.proofs.Common.{vec_items, ap, ◌∙◌}
 use Rattle.qcheck.specs.declared.stack.Answer.TheVariants.{Refused}
 use Rattle.qcheck.specs.Answers.{refused}
-use Rattle.qcheck.proofs.Towers.{told-piled, answer-refused}
+use Rattle.qcheck.proofs.Towers.{told_piled, answer-refused}
 use Rattle.qcheck.proofs.stack.judge_two.Goals as goal
 
 pub returns-in-Ok : goal.returns-in-Ok
 returns-in-Ok g c =
-    told-piled (vec_items c.args.stack.now) _ c.in-Some.upper c.shared.result (g.S.System.meaning c.args.system) c.args.bench.now.claim.now c.args.bench.now.tables c.in-Some.ensures.items c.shared.ensures _ c.judge_three.result c.in-Ok.ensures.0 c.in-Ok.ensures.1 c.judge_three.ensures
+    told_piled (vec_items c.args.stack.now) _ c.in-Some.upper c.shared.result (g.S.System.meaning c.args.system) c.args.bench.now.claim.now c.args.bench.now.tables c.in-Some.ensures.items c.shared.ensures _ c.judge_three.result c.in-Ok.ensures.0 c.in-Ok.ensures.1 c.judge_three.ensures
 
 pub returns : goal.returns
 returns g c =

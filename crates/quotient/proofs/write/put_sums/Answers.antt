@@ -7,7 +7,7 @@ use Rattle.quotient.specs.Layings.{stored}
 use Rattle.quotient.specs.Plans.{sum_at}
 use Rattle.quotient.specs.Quotient.{moves_of}
 use Rattle.quotient.proofs.Laying.{lay_more}
-use Rattle.quotient.proofs.Dividing.{sum-lines-are}
+use Rattle.quotient.proofs.Dividing.{sum_lines_are}
 use Rattle.quotient.proofs.write.put_sums.Goals as goal
 
 pub returns : goal.returns
@@ -19,5 +19,5 @@ returns g c =
     let q = c.put_sums_along.ensures in
     record {
       lent = (q.lent.0 ∙ h.lent.0, q.lent.1 ∙ h.lent.1);
-      wrote = λ alts. lay_more (stored (table c.args.nodes.now) (table c.args.terms.now) alts) _ _ (map (λ p. f (point R p)) (range_with_len 0 R.states)) (map f (flat_map (moves_of R) (range_with_len 0 R.states))) _ (h.wrote alts) (q.wrote alts) (sum-lines-are R x c.requires.planned c.args.threshold c.args.run);
+      wrote = λ alts. lay_more (stored (table c.args.nodes.now) (table c.args.terms.now) alts) _ _ (map (λ p. f (point R p)) (range_with_len 0 R.states)) (map f (flat_map (moves_of R) (range_with_len 0 R.states))) _ (h.wrote alts) (q.wrote alts) (sum_lines_are R x c.requires.planned c.args.threshold c.args.run);
     }

@@ -3,7 +3,7 @@ use Rattle.std.proofs.lemmas.Bool.{cases_eq}
 use Rattle.formulas.specs.Tables.{slots}
 use Rattle.simplification.specs.Packed.{all_lines}
 use Rattle.simplification.specs.Compacting.{is_ticked}
-use Rattle.simplification.proofs.Compactings.{compacting_none, low, compacting-fits, kept-turn, gone-turn, compacting_all}
+use Rattle.simplification.proofs.Compactings.{compacting_none, low, compacting_fits, kept-turn, gone_turn, compacting_all}
 use Rattle.simplification.proofs.compact.compact.Goals as goal
 
 pub loop-i-init : goal.loop-i-init
@@ -22,7 +22,7 @@ compact_at-used-requires c =
           c.loop-i.i c.loop-i.used (slots c.loop-i.nodes c.loop-i.terms c.loop-i.alternatives) c.loop-i.map c.loop-i.invariant c.loop-i-test.true;
       few = omega (arith, c.loop-i-test.true, c.requires.packed.few_nodes);
       fit =
-          compacting-fits (slots c.args.nodes.now c.args.terms.now c.args.alternatives.now) c.requires.packed c.args.map.now c.requires.closed
+          compacting_fits (slots c.args.nodes.now c.args.terms.now c.args.alternatives.now) c.requires.packed c.args.map.now c.requires.closed
           c.loop-i.i c.loop-i.used (slots c.loop-i.nodes c.loop-i.terms c.loop-i.alternatives) c.loop-i.map c.loop-i.invariant c.loop-i-test.true (length c.loop-i.map) (omega (arith, room));
     }
 
@@ -36,7 +36,7 @@ loop-i-preserved c =
     c.compact_at-used.result (slots c.compact_at-used.new.nodes c.compact_at-used.new.terms c.compact_at-used.new.alternatives) c.compact_at-used.new.map
     room e (c.compact_at-used.ensures.kept e))
     (λ (e : get_or c.loop-i.map c.loop-i.i 0 ≡ 1 → ⊥).
-    gone-turn (slots c.args.nodes.now c.args.terms.now c.args.alternatives.now) c.requires.packed c.args.map.now c.requires.closed
+    gone_turn (slots c.args.nodes.now c.args.terms.now c.args.alternatives.now) c.requires.packed c.args.map.now c.requires.closed
     c.loop-i.i c.loop-i.used (slots c.loop-i.nodes c.loop-i.terms c.loop-i.alternatives) c.loop-i.map c.loop-i.invariant c.loop-i-test.true
     c.compact_at-used.result (slots c.compact_at-used.new.nodes c.compact_at-used.new.terms c.compact_at-used.new.alternatives) c.compact_at-used.new.map
     e (c.compact_at-used.ensures.gone e))

@@ -4,7 +4,7 @@ use Rattle.formulas.specs.Layout.{fills}
 use Rattle.formulas.specs.Tables.{slots, laid}
 use Rattle.simplification.specs.Packed.{all_lines, whole}
 use Rattle.simplification.proofs.Laid.{formed-ordered}
-use Rattle.simplification.proofs.Cutting.{lines_long, ticks-closed, compacted-is, root_is, all_zero}
+use Rattle.simplification.proofs.Cutting.{lines_long, ticks_closed, compacted-is, root_is, all_zero}
 use Rattle.simplification.proofs.in_place.cut.Goals as goal
 
 pub reach-requires : goal.reach-requires
@@ -27,7 +27,7 @@ compact-fills-requires c =
       packed = P;
       room = omega (arith, long);
       closed = λ i h.
-          ticks-closed (whole c.args.root s) (formed-ordered (all_lines s) P.formed) (omega (arith, same, c.requires.root))
+          ticks_closed (whole c.args.root s) (formed-ordered (all_lines s) P.formed) (omega (arith, same, c.requires.root))
           c.reach.new.ticks (omega (arith, long, same)) c.reach.ensures i (omega (arith, same));
     }
 

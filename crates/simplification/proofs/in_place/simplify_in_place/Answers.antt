@@ -1,7 +1,7 @@
 use Rattle.std.proofs.Common.{sym, ◌∙◌, arith}
 use Rattle.formulas.specs.Tables.{slots}
 use Rattle.simplification.specs.Tables.{desk}
-use Rattle.simplification.proofs.Fronts.{ready, no_more, settles-in, accepted}
+use Rattle.simplification.proofs.Fronts.{ready, no_more, settles_in, accepted}
 use Rattle.simplification.proofs.in_place.simplify_in_place.Goals as goal
 
 pub simplify_front-requires : goal.simplify_front-requires
@@ -30,5 +30,5 @@ returns c =
     record {
       outcome = accepted f root c.args.mass s held c.args.map.now x d c.if-map-standing.false answer left;
       fewer = no_more f root c.args.mass s held law c.layout_stands.ensures.tables x answer;
-      settled = settles-in f root c.args.mass s held law c.layout_stands.ensures.lines c.args.map.now x d answer left;
+      settled = settles_in f root c.args.mass s held law c.layout_stands.ensures.lines c.args.map.now x d answer left;
     }

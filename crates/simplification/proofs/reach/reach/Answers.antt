@@ -10,7 +10,7 @@ use Rattle.simplification.specs.Packed.{all_lines}
 use Rattle.simplification.specs.Reaching.{ticked, Ticks}
 use Rattle.simplification.proofs.Laid.{formed-ordered}
 use Rattle.simplification.proofs.Cutting.{packed-fits}
-use Rattle.simplification.proofs.Ticking.{ticks_start, ticks-turn}
+use Rattle.simplification.proofs.Ticking.{ticks_start, ticks_turn}
 use Rattle.simplification.proofs.reach.reach.Goals as goal
 
 pub loop-i-init : goal.loop-i-init
@@ -45,7 +45,7 @@ loop-i-preserved c =
     sym (get_or-map (line c.args.terms.now c.args.alternatives.now) c.args.nodes.now i blank_node (constant state true) h) in
     let inv : Ticks c.loop-i.ticks (reached (i + 1) (drop (i + 1) ls) (c.args.root ∷ [])) =
     subst (λ (k : ℕ). Ticks c.loop-i.ticks (reached k (drop k ls) (c.args.root ∷ []))) s c.loop-i.invariant in
-    ticks-turn ls (c.args.root ∷ []) i (omega (arith, long)) c.loop-i.ticks c.reach_at.new.ticks (omega (arith, long, same, c.requires.long))
+    ticks_turn ls (c.args.root ∷ []) i (omega (arith, long)) c.loop-i.ticks c.reach_at.new.ticks (omega (arith, long, same, c.requires.long))
     (All-weaker (λ d. d < i) (λ d. d < length c.loop-i.ticks) (λ d l. omega (arith, same, c.requires.long)) (parts (line_at ls i)) (formed-ordered ls c.requires.packed.formed i (omega (arith, long))))
     inv
     (c.reach_at.ensures ∙ ap (λ (l : Line). cond (eqb (get_or c.loop-i.ticks i 0) 1) (ticked c.loop-i.ticks (parts l)) c.loop-i.ticks) at)

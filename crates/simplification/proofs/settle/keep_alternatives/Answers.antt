@@ -2,7 +2,7 @@ use Rattle.std.proofs.Common.{not, sym, refl, ap, ◌∙◌, arith}
 use Rattle.simplification.specs.Simplify.{tone_of, is_no}
 use Rattle.simplification.specs.Settling.{glance, Led}
 use Rattle.simplification.proofs.Puts.{moving-none, moving-all}
-use Rattle.simplification.proofs.Keeping.{entry_at, end_low, turn-take, turn-skip}
+use Rattle.simplification.proofs.Keeping.{entry_at, end_low, turn-take, turn_skip}
 use Rattle.simplification.proofs.settle.keep_alternatives.Goals as goal
 use Rattle.simplification.proofs.settle.keep_alternatives.Goals.{then-not-is_no, else-not-is_no}
 
@@ -79,7 +79,7 @@ loop-k-preserved c =
     elim c.if-not-is_no.branch [
       | then-not-is_no w ↦ turn-take (λ d. not (is_no (tone_of E d))) (λ d. (E d).to) c.args.alternatives.now c.loop-k.alternatives c.args.run c.args.start c.loop-k.k c.loop-k.end c.loop-k.invariant
           c.requires.past c.requires.within c.loop-k-test.true 0 _ _ _ (ap not (told ∙ w.if-not-is_no.true)) refl w.alternatives-is w.end-is
-      | else-not-is_no w ↦ turn-skip (λ d. not (is_no (tone_of E d))) (λ d. (E d).to) c.args.alternatives.now c.loop-k.alternatives c.args.run c.args.start c.loop-k.k c.loop-k.end c.loop-k.invariant
+      | else-not-is_no w ↦ turn_skip (λ d. not (is_no (tone_of E d))) (λ d. (E d).to) c.args.alternatives.now c.loop-k.alternatives c.args.run c.args.start c.loop-k.k c.loop-k.end c.loop-k.invariant
           c.requires.past c.requires.within c.loop-k-test.true 0 _ _ (ap not (told ∙ w.if-not-is_no.false)) w.alternatives-is w.end-is
     ]
 

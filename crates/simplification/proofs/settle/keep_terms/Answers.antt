@@ -3,7 +3,7 @@ use Rattle.simplification.specs.Simplify.{tone_of, is_neither, retarget}
 use Rattle.simplification.specs.Tables.{blank_term}
 use Rattle.simplification.specs.Settling.{glance, Led}
 use Rattle.simplification.proofs.Puts.{moving-none, moving-all}
-use Rattle.simplification.proofs.Keeping.{entry_at, end_low, turn-take, turn-skip}
+use Rattle.simplification.proofs.Keeping.{entry_at, end_low, turn-take, turn_skip}
 use Rattle.simplification.proofs.settle.keep_terms.Goals as goal
 use Rattle.simplification.proofs.settle.keep_terms.Goals.{then-is_open, else-is_open}
 
@@ -80,7 +80,7 @@ loop-k-preserved c =
     elim c.if-is_open.branch [
       | then-is_open w ↦ turn-take (λ k. is_neither (tone_of E k.node)) (retarget (λ j. (E j).to)) c.args.terms.now c.loop-k.terms c.args.run c.args.start c.loop-k.k c.loop-k.end c.loop-k.invariant
           c.requires.past c.requires.within c.loop-k-test.true blank_term _ _ _ (told ∙ w.if-is_open.true) refl w.terms-is w.end-is
-      | else-is_open w ↦ turn-skip (λ k. is_neither (tone_of E k.node)) (retarget (λ j. (E j).to)) c.args.terms.now c.loop-k.terms c.args.run c.args.start c.loop-k.k c.loop-k.end c.loop-k.invariant
+      | else-is_open w ↦ turn_skip (λ k. is_neither (tone_of E k.node)) (retarget (λ j. (E j).to)) c.args.terms.now c.loop-k.terms c.args.run c.args.start c.loop-k.k c.loop-k.end c.loop-k.invariant
           c.requires.past c.requires.within c.loop-k-test.true blank_term _ _ (told ∙ w.if-is_open.false) w.terms-is w.end-is
     ]
 

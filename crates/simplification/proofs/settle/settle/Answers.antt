@@ -1,7 +1,7 @@
 use Rattle.std.proofs.Common.{arith}
 use Rattle.formulas.specs.Tables.{slots}
 use Rattle.simplification.specs.Packed.{all_lines}
-use Rattle.simplification.proofs.Settlings.{settling_none, settling-fits, turn, settled}
+use Rattle.simplification.proofs.Settlings.{settling_none, settling_fits, turn, settled}
 use Rattle.simplification.proofs.settle.settle.Goals as goal
 
 pub loop-i-init : goal.loop-i-init
@@ -15,7 +15,7 @@ settle_at-ends-requires c = record {
   map = omega (arith, c.loop-i-test.true, c.loop-i.auto.map, c.requires.room);
   few = omega (arith, c.loop-i-test.true, c.requires.packed.few_nodes);
   fit =
-      settling-fits (slots c.args.nodes.now c.args.terms.now c.args.alternatives.now) c.requires.packed c.args.map.now c.requires.room
+      settling_fits (slots c.args.nodes.now c.args.terms.now c.args.alternatives.now) c.requires.packed c.args.map.now c.requires.room
       c.loop-i.i c.loop-i.ends.term c.loop-i.ends.alternative (slots c.loop-i.nodes c.loop-i.terms c.loop-i.alternatives) c.loop-i.map c.loop-i.invariant c.loop-i-test.true;
 }
 

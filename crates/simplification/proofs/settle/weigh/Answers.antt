@@ -4,7 +4,7 @@ use Rattle.std.proofs.ByRecursion.{All-get_or}
 use Rattle.simplification.specs.Simplify.{Tone, is_yes, is_no, yes_part, terms_left, coefficients}
 use Rattle.simplification.specs.Tables.{blank_term}
 use Rattle.simplification.specs.Settling.{glance, Led}
-use Rattle.simplification.proofs.Keeping.{weighing-more}
+use Rattle.simplification.proofs.Keeping.{weighing_more}
 use Rattle.simplification.proofs.settle.weigh.Goals as goal
 
 pub loop-t-init : goal.loop-t-init
@@ -20,7 +20,7 @@ pub loop-t-preserved : goal.loop-t-preserved
 loop-t-preserved c =
     let E = glance c.args.nodes.now c.args.map.now in
     let k = get_or c.args.terms.now c.loop-t.t-index blank_term in
-    weighing-more E c.args.threshold c.args.terms.now c.loop-t.t-index c.loop-t.rest.threshold c.loop-t.rest.lack c.loop-t.invariant blank_term c.loop-t-test.true
+    weighing_more E c.args.threshold c.args.terms.now c.loop-t.t-index c.loop-t.rest.threshold c.loop-t.rest.lack c.loop-t.invariant blank_term c.loop-t-test.true
     c.weigh_term-rest.result.threshold c.weigh_term-rest.result.lack
     (c.weigh_term-rest.ensures.threshold ∙ ap (λ (o : Tone). c.loop-t.rest.threshold - cond (is_yes o) k.coefficient 0) c.see_part.ensures)
     (c.weigh_term-rest.ensures.lack ∙ ap (λ (o : Tone). c.loop-t.rest.lack - cond (is_no o) 0 k.coefficient) c.see_part.ensures)

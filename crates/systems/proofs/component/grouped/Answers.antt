@@ -2,11 +2,11 @@ use Rattle.std.proofs.Common.{◌≡◌, ℕ, ◌+◌, [], ◌∷◌, ◌++◌, 
 use lib.ListN.{length-map}
 use Rattle.systems.specs.Tables.{no_record, row}
 use Rattle.systems.specs.Index.{Grouped}
-use Rattle.systems.proofs.Tallied.{grouped-none, grouped-more}
+use Rattle.systems.proofs.Tallied.{grouped_none, grouped_more}
 use Rattle.systems.proofs.component.grouped.Goals as goal
 
 pub loop-r-init : goal.loop-r-init
-loop-r-init c = grouped-none c.args.rows.now c.args.states (map vec_items (vec_items c.in_ok-cells.cells)) c.in_ok-cells.ensures
+loop-r-init c = grouped_none c.args.rows.now c.args.states (map vec_items (vec_items c.in_ok-cells.cells)) c.in_ok-cells.ensures
 
 pub put-requires : goal.put-requires
 put-requires c =
@@ -20,7 +20,7 @@ loop-r-preserved c =
     let r = row c.args.rows.now c.loop-r.r-index in
     subst (Grouped c.args.states c.args.rows.now (c.loop-r.r-index + 1))
     (sym (c.in_ok-put.ensures ∙ ap (λ (x : ℕ). set cells x (get_or cells x [] ++ r ∷ [])) c.cell.ensures))
-    (grouped-more c.args.rows.now c.loop-r.r-index c.loop-r-test.true h.1 c.args.states cells h.0 c.loop-r.invariant)
+    (grouped_more c.args.rows.now c.loop-r.r-index c.loop-r-test.true h.1 c.args.states cells h.0 c.loop-r.invariant)
 
 pub returns : goal.returns
 returns c =

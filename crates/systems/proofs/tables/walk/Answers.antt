@@ -2,7 +2,7 @@ use Rattle.std.proofs.Common.{◌≡◌, ℕ, ◌+◌, ◌≤◌, max, length, g
 use Rattle.systems.specs.Counts.{Reached}
 use Rattle.systems.specs.Mounts.{first_fault}
 use Rattle.systems.specs.Tables.{longest}
-use Rattle.systems.specs.Mounted.{fault-first, none_more}
+use Rattle.systems.specs.Mounted.{fault_first, none_more}
 use Rattle.systems.proofs.Tallied.{counted_none}
 use Rattle.systems.proofs.Walked.{count_small, counted-right, longest-right}
 use Rattle.systems.proofs.tables.walk.Goals as goal
@@ -23,7 +23,7 @@ slice_bounds-fault_at-end c = sym c.loop-i.invariant.1.whole
 
 pub returns-in-Some : goal.returns-in-Some
 returns-in-Some c =
-    fault-first c.args.states c.args.rows.now c.args.targets.now c.in-Some.f c.loop-i.i (length c.args.rows.now) c.loop-i-test.true c.loop-i.invariant.0 c.in-Some.ensures
+    fault_first c.args.states c.args.rows.now c.args.targets.now c.in-Some.f c.loop-i.i (length c.args.rows.now) c.loop-i-test.true c.loop-i.invariant.0 c.in-Some.ensures
 
 pub overflow_add-met : goal.overflow_add-met
 overflow_add-met c = omega (arith, small c)

@@ -1,17 +1,17 @@
 use Rattle.std.proofs.Common.{refl, ap, ⊎_elim, arith}
 use Rattle.formulas.specs.Words.{ended}
-use Rattle.formulas.proofs.Scan.{go, close, close-mode, alone, last, last_within, no_more}
+use Rattle.formulas.proofs.Scan.{go, close, close_mode, alone, last, last_within, no_more}
 use Rattle.formulas.proofs.words.Words.next_word.Goals as goal
 
 pub slice_bounds-result-count : goal.slice_bounds-result-count
-slice_bounds-result-count c = let b = close-mode _ _ _ _ c.loop-at.invariant.0 c.loop-at-test.true c.in-Close.start c.in-Close.ensures in omega arith
+slice_bounds-result-count c = let b = close_mode _ _ _ _ c.loop-at.invariant.0 c.loop-at-test.true c.in-Close.start c.in-Close.ensures in omega arith
 
 pub returns-in-Close : goal.returns-in-Close
 returns-in-Close c =
     let h = c.loop-at.invariant.0 in
     let lt = c.loop-at-test.true in
     let e = c.in-Close.ensures in
-    let b = close-mode _ _ _ _ h lt _ e in
+    let b = close_mode _ _ _ _ h lt _ e in
     record { same = ap (λ s. s.text) c.loop-at.invariant.1; cases = (close _ _ _ _ h lt _ e, refl, omega arith, b.2) }
 
 pub returns-in-Alone : goal.returns-in-Alone

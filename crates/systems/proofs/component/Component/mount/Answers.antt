@@ -2,8 +2,8 @@ use Rattle.std.proofs.Common.{◌≡◌, ℕ, true, List, map, length, vec_items
 use lib.ListN.{length-map}
 use Rattle.systems.specs.declared.system.Target.{Target}
 use Rattle.systems.specs.Index.{index_meaning, good_index}
-use Rattle.systems.specs.Mounted.{right_tables, all-inside, longest-low, longest-high}
-use Rattle.systems.specs.Indexed.{index-good, same-meaning}
+use Rattle.systems.specs.Mounted.{right_tables, all-inside, longest_low, longest_high}
+use Rattle.systems.specs.Indexed.{index_good, same_meaning}
 use Rattle.systems.proofs.component.Component.mount.Goals as goal
 
 pub grouped-requires : goal.grouped-requires
@@ -23,8 +23,8 @@ invariant_of-result c =
     let e = c.in_ok-breadth.ensures.1 in
     let own = c.in-Ok-from_slice.ensures.items in
     let g = c.in-Ok.ensures in
-    let b1 = longest-low rs (length rs) in
-    let b2 = longest-high n rs ts t.records (length rs) (omega arith) in
+    let b1 = longest_low rs (length rs) in
+    let b2 = longest_high n rs ts t.records (length rs) (omega arith) in
     record {
       counted = t.states;
       broad = (omega (arith, e, b1), omega (arith, e, b2));
@@ -32,7 +32,7 @@ invariant_of-result c =
       short = omega (arith, ap length own, t.short);
       good =
           subst (λ (xs : List Target). good_index n c.in_ok-breadth.breadth cells xs ≡ true) (sym own)
-          (subst (λ (b : ℕ). good_index n b cells ts ≡ true) (sym e) (index-good n rs ts cells t.records g));
+          (subst (λ (b : ℕ). good_index n b cells ts ≡ true) (sym e) (index_good n rs ts cells t.records g));
     }
 
 pub returns : goal.returns
@@ -45,5 +45,5 @@ returns c =
       ok,
       ap (index_meaning n c.in_ok-breadth.breadth cells) c.in-Ok-from_slice.ensures.items
           ∙ ap (λ (b : ℕ). index_meaning n b cells ts) c.in_ok-breadth.ensures.1
-          ∙ same-meaning n rs ts cells (right_tables n rs ts ok).records c.in-Ok.ensures,
+          ∙ same_meaning n rs ts cells (right_tables n rs ts ok).records c.in-Ok.ensures,
     )

@@ -1,6 +1,6 @@
 use Rattle.std.proofs.Common.{◌/◌, ◌%◌, List, [], length, get_or, sym, ap, arith}
 use Rattle.systems.specs.Meaning.{Move}
-use Rattle.systems.proofs.PiledCode.{moves_outside, no_move, targets-shared, targets-upper, targets-lower, short-shared}
+use Rattle.systems.proofs.PiledCode.{moves_outside, no_move, targets_shared, targets_upper, targets_lower, short-shared}
 use Rattle.systems.proofs.pile.PileSystem.targets.Goals as goal
 
 pub returns-in_default : goal.returns-in_default
@@ -13,10 +13,10 @@ pub overflow_mul-result : goal.overflow_mul-result
 overflow_mul-result g c = omega (arith, short-shared c.in-Some.ensures c.args.action (c.args.mv / c.moves-low.result) (c.args.mv % c.moves-low.result) c.targets.ensures c.targets-then-contains.ensures)
 
 pub returns-then-contains : goal.returns-then-contains
-returns-then-contains g c = targets-shared c.in-Some.ensures c.args.action c.args.mv c.if-contains.ensures c.moves-low.ensures c.if-low-eq0.false c.targets.ensures c.targets-then-contains.ensures
+returns-then-contains g c = targets_shared c.in-Some.ensures c.args.action c.args.mv c.if-contains.ensures c.moves-low.ensures c.if-low-eq0.false c.targets.ensures c.targets-then-contains.ensures
 
 pub returns-then-mv-up : goal.returns-then-mv-up
-returns-then-mv-up g c = targets-upper c.in-Some.ensures c.args.action c.args.mv c.if-contains.ensures c.moves-up.ensures c.if-mv-up.true c.targets-then-mv-up.ensures
+returns-then-mv-up g c = targets_upper c.in-Some.ensures c.args.action c.args.mv c.if-contains.ensures c.moves-up.ensures c.if-mv-up.true c.targets-then-mv-up.ensures
 
 pub returns-else-mv-up : goal.returns-else-mv-up
-returns-else-mv-up g c = targets-lower c.in-Some.ensures c.args.action c.args.mv c.if-contains.ensures c.moves-up.ensures c.if-mv-up.false c.targets-else-mv-up.ensures
+returns-else-mv-up g c = targets_lower c.in-Some.ensures c.args.action c.args.mv c.if-contains.ensures c.moves-up.ensures c.if-mv-up.false c.targets-else-mv-up.ensures
