@@ -86,7 +86,10 @@ def gather():
                 if m and not (made and (m.group(2) or "").startswith("goal.")):
                     signature = m.group(2) or ""
                     is_type = re.search(r"Type( \d+)?\s*$", signature) is not None
-                    found.setdefault(m.group(1), ("type" if is_type and m.group(1)[:1].isupper() else "word", lemma_file and not is_type))
+                    states = lemma_file or re.search("[≡<≤]", signature) is not None
+                    if not states:
+                        DEFINED.add(m.group(1))
+                    found.setdefault(m.group(1), ("type" if is_type and m.group(1)[:1].isupper() else "word", states and not is_type))
             elif body:
                 m = re.match(r"^\s+(?:pub )?([^\s:(){}]+(?: [^\s:(){}]+)*)\s*:", line)
                 if m:
@@ -97,6 +100,8 @@ def gather():
             if line.startswith("ghost use"):
                 for m in re.finditer(r"([^\s{,]+) as ([^\s},]+)", line):
                     found.setdefault(m.group(2), ("alias", False))
+    for name in DEFINED & set(found):
+        found[name] = (found[name][0], False)
     return found
 
 
@@ -144,6 +149,8 @@ def turn_code(text, turned):
 
 
 FIELDS = set()
+# what a block of specs/ defines: a lemma elsewhere may have the same name
+DEFINED = set()
 
 
 def is_field(word):

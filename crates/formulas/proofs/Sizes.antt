@@ -2,7 +2,7 @@
 use Rattle.std.proofs.Common.{◌≡◌, ℕ, suc, ◌+◌, List, [], ◌∷◌, ◌++◌, length, sym, refl, ap, ◌∙◌, append_assoc, add-zero, add_assoc, arith, length-append}
 use Rattle.formulas.specs.Layout.{node, terms_in, alternatives_in, node_table, term_table, alternative_table}
 use Rattle.formulas.specs.Lines.{Sort, state, dist, Line}
-use Rattle.formulas.specs.Stores.{term-count, term_counts, step_count, step_counts}
+use Rattle.formulas.specs.Stores.{term_count, term_counts, step_count, step_counts}
 use Rattle.formulas.specs.Trees.{Tree, leaf, conj, neg, dia, here, at_least, Products, none, product, below, below_products, count, terms, lay, lay_products}
 
 pub term_table-++ : (ls ms : List Line) → term_table (ls ++ ms) ≡ term_table ls ++ term_table ms
@@ -41,7 +41,7 @@ length-terms n none = refl
 length-terms n (product c s ks) = omega (arith, length-terms (n + below s + 1) ks)
 
 mutual
-  pub length-term_table : (σ : Sort) (n : ℕ) (x : Tree) → length (term_table (lay σ n x)) ≡ term-count x
+  pub length-term_table : (σ : Sort) (n : ℕ) (x : Tree) → length (term_table (lay σ n x)) ≡ term_count x
   length-term_table σ n (leaf b) = refl
   length-term_table σ n (conj x y) = simp (term_table-++, length-append) (omega (arith, length-term_table σ n x, length-term_table σ (n + below x + 1) y))
   length-term_table σ n (neg x) = simp (term_table-++, length-append) (omega (arith, length-term_table σ n x))

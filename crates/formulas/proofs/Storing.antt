@@ -8,7 +8,7 @@ use Rattle.formulas.specs.declared.summands.Summands.{Summands}
 use Rattle.formulas.specs.Append.{capped, raised, Table, Puts}
 use Rattle.formulas.specs.Layout.{run, constant_node, both_node, non_node, node_table, term_table, alternative_table}
 use Rattle.formulas.specs.Lines.{Sort, state, dist, Line, both, non, step, sum}
-use Rattle.formulas.specs.Stores.{Store, extended, added, Small, Counted, Wrote, Factored, Summed, PutsMove, PutsHere, PutsSum, term-count, term_counts, step_count, step_counts}
+use Rattle.formulas.specs.Stores.{Store, extended, added, Small, Counted, Wrote, Factored, Summed, PutsMove, PutsHere, PutsSum, term_count, term_counts, step_count, step_counts}
 use Rattle.formulas.specs.Trees.{Tree, leaf, conj, neg, dia, here, at_least, Products, none, product, below, below_products, count, terms, lay, lay_products}
 use Rattle.formulas.proofs.Sizes.{term_table-++, alternative_table-++, node_table-++}
 use Rattle.formulas.proofs.Pasted.{written-++}
@@ -154,7 +154,7 @@ module _ {s m : Store} {d : Tree} {b : ℕ} (w : Wrote dist s m d b) {ns : Table
   step-counted : {x : Node} → Puts m.alternatives (b ∷ []) m.alternatives.fill alts → Puts m.nodes (x ∷ []) n ns → Counted m 1 0 1 (stepped m ns alts)
   step-counted q p = record { nodes = put-counted p; terms = grind arith; alternatives = put-counted q }
 
-  step-wrote : {x : Node} (t : Tree) (l : ℕ → Line) → below t ≡ below d + 1 → term-count t ≡ term-count d → step_count t ≡ step_count d + 1 →
+  step-wrote : {x : Node} (t : Tree) (l : ℕ → Line) → below t ≡ below d + 1 → term_count t ≡ term_count d → step_count t ≡ step_count d + 1 →
       lay state s.nodes.fill t ≡ lay dist s.nodes.fill d ++ (l (s.nodes.fill + below d) ∷ []) →
       Puts m.alternatives (b ∷ []) m.alternatives.fill alts → Puts m.nodes (x ∷ []) n ns →
       (Small (stepped m ns alts) → node_table m.terms.fill m.alternatives.fill (l b ∷ []) ≡ x ∷ []) → term_table (l b ∷ []) ≡ [] → alternative_table (l b ∷ []) ≡ b ∷ [] →

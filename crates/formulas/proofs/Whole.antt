@@ -14,7 +14,7 @@ use Rattle.formulas.specs.Productions.{a_term}
 use Rattle.formulas.specs.Reading.{placed, reading, Reads}
 use Rattle.formulas.specs.Tables.{Slots, takes, fits, over, laid}
 use Rattle.formulas.specs.Readers.{Takes}
-use Rattle.formulas.specs.Stores.{Store, Small, Wrote, term-count, step_count}
+use Rattle.formulas.specs.Stores.{Store, Small, Wrote, term_count, step_count}
 use Rattle.formulas.specs.Trees.{Tree, below, lay}
 use Rattle.formulas.specs.Whole.{holding, empty, Whole, Ends}
 use Rattle.formulas.proofs.Sizes.{length-node_table, length-lay, length-term_table, length-alternative_table}
@@ -71,7 +71,7 @@ module _ {t : Tree} {s after : Slots} {f : Fills} {n : ℕ} (w : Wrote state (ho
       ap (λ b. b && (takes (length tables.terms) f.terms && takes (length tables.alternatives) f.alternatives))
       (takes-capped (length tables.nodes) f.nodes (below t + 1) w.counted.nodes ∙ ap (takes (length tables.nodes)) (sym (length-lay state 0 t)))
       ∙ ap (λ b. takes (length tables.nodes) (length (lay state 0 t)) && (b && takes (length tables.alternatives) f.alternatives))
-      (takes-capped (length tables.terms) f.terms (term-count t) w.counted.terms ∙ ap (takes (length tables.terms)) (sym (length-term_table state 0 t)))
+      (takes-capped (length tables.terms) f.terms (term_count t) w.counted.terms ∙ ap (takes (length tables.terms)) (sym (length-term_table state 0 t)))
       ∙ ap (λ b. takes (length tables.nodes) (length (lay state 0 t)) && (takes (length tables.terms) (length (term_table (lay state 0 t))) && b))
       (takes-capped (length tables.alternatives) f.alternatives (step_count t) w.counted.alternatives ∙ ap (takes (length tables.alternatives)) (sym (length-alternative_table state 0 t)))
 
@@ -98,7 +98,7 @@ module _ {t : Tree} {s after : Slots} {f : Fills} {n : ℕ} (w : Wrote state (ho
         let lt = length-term_table state 0 t in
         let la = length-alternative_table state 0 t in
         let x : f.nodes ≡ length (lay state 0 t) = exactly f.nodes (below t + 1) w.counted.nodes (omega arith) ∙ sym ln in
-        let y : f.terms ≡ length (term_table (lay state 0 t)) = exactly f.terms (term-count t) w.counted.terms (omega arith) ∙ sym lt in
+        let y : f.terms ≡ length (term_table (lay state 0 t)) = exactly f.terms (term_count t) w.counted.terms (omega arith) ∙ sym lt in
         let z : f.alternatives ≡ length (alternative_table (lay state 0 t)) = exactly f.alternatives (step_count t) w.counted.alternatives (omega arith) ∙ sym la in
         λ i. record { nodes = x i; terms = y i; alternatives = z i }
 

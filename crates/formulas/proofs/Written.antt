@@ -59,11 +59,11 @@ mutual
       ap (λ l. Some Open ∷ Some AtLeast ∷ l)
       (said_append (summed ks (spell_products ks)) (Numeral t ∷ Close ∷ []) v
       ∙ summed_write ks (Some (Numeral t) ∷ Some Close ∷ v)
-      ∙ ap (λ l. sum_open ks l) (spell-write_products ks (sum-close ks (Some (Numeral t) ∷ Some Close ∷ v))))
+      ∙ ap (λ l. sum_open ks l) (spell_write_products ks (sum-close ks (Some (Numeral t) ∷ Some Close ∷ v))))
 
-  pub spell-write_products : (ks : Products) (v : Toks) → map Some (spell_products ks) ++ v ≡ write-products ks v
-  spell-write_products none v = refl
-  spell-write_products (product c s ks) v = simp (said_append, write-spell s, spell-write_products ks)
+  pub spell_write_products : (ks : Products) (v : Toks) → map Some (spell_products ks) ++ v ≡ write-products ks v
+  spell_write_products none v = refl
+  spell_write_products (product c s ks) v = simp (said_append, write-spell s, spell_write_products ks)
 
 -- what a tree behind `(` and a token is, where the words behind these are u and v is behind the tree
 abbrev pub Headed : Token → Tree → Toks → Toks → Type 0

@@ -40,17 +40,17 @@ pub record Small (s : Store) : Type 0 where
 
 -- the terms of a tree's sums
 abbrev mutual
-  pub term-count : Tree → ℕ
-  term-count (leaf b) = 0
-  term-count (conj x y) = term-count x + term-count y
-  term-count (neg x) = term-count x
-  term-count (dia a d) = term-count d
-  term-count (here d) = term-count d
-  term-count (at_least ks t) = term_counts ks + count ks
+  pub term_count : Tree → ℕ
+  term_count (leaf b) = 0
+  term_count (conj x y) = term_count x + term_count y
+  term_count (neg x) = term_count x
+  term_count (dia a d) = term_count d
+  term_count (here d) = term_count d
+  term_count (at_least ks t) = term_counts ks + count ks
 
   pub term_counts : Products → ℕ
   term_counts none = 0
-  term_counts (product c s ks) = term-count s + term_counts ks
+  term_counts (product c s ks) = term_count s + term_counts ks
 
 -- the alternatives of a tree's steps
 abbrev mutual
@@ -74,7 +74,7 @@ pub record Counted (s : Store) (n t a : ℕ) (after : Store) : Type 0 where
 
 -- the tree x of a sort is written behind what is there, its own node as number n
 pub record Wrote (σ : Sort) (s after : Store) (x : Tree) (n : ℕ) : Type 0 where
-  pub counted : Counted s (below x + 1) (term-count x) (step_count x) after
+  pub counted : Counted s (below x + 1) (term_count x) (step_count x) after
   pub number : Small after → n ≡ s.nodes.fill + below x
   pub laid : Small after → after ≡ added s (lay σ s.nodes.fill x)
 

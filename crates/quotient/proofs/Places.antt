@@ -111,9 +111,9 @@ module _ (A : ℕ → Bool) (R : Meaning) (ls : List Line) where
     unfolding New
     places-fit q ds l ps = All-map (New dist) (λ d. place R ls d q) ds (All-weaker (Part ls i dist) (λ d. New dist (place R ls d q)) (λ d part. part-place i p h dist d q part (point-row R q l)) ds ps)
 
-    move-places_fit : (q a : ℕ) (ds : List ℕ) → q < R.states → a < 32 → AllByRecursion (Part ls i dist) ds → AllByRecursion (New dist) (move_places R ls ds q a)
+    move_places_fit : (q a : ℕ) (ds : List ℕ) → q < R.states → a < 32 → AllByRecursion (Part ls i dist) ds → AllByRecursion (New dist) (move_places R ls ds q a)
     unfolding New
-    move-places_fit q a ds l ha ps =
+    move_places_fit q a ds l ha ps =
         all_cross (place R ls) (New dist) ds (move_rows R q a) ps (all_counting (λ r. r < length (rows R)) (first_row R q a) (length (R.moves q a)) (λ j k. move_row R q a j l ha k))
         (λ d r part k. part-place i p h dist d r part k)
 
@@ -124,8 +124,8 @@ module _ (A : ℕ → Bool) (R : Meaning) (ls : List Line) where
     new-fits (non σ j) f l = part-place i p h σ j p f l
     new-fits (step a ms hs) f l =
         elim (A a) as (λ b. Fits (quotient_lines A R ls) (place R ls i p) (new_step b R ls a ms hs p)) [
-          | true ↦ (f.0, move-places_fit p a ms l f.0 f.1, places-fit p hs l f.2)
-          | false ↦ (f.0, places-fit p ms l f.1, All-append (New dist) (move_places R ls ms p a) (places R ls hs p) (move-places_fit p a ms l f.0 f.1) (places-fit p hs l f.2))
+          | true ↦ (f.0, move_places_fit p a ms l f.0 f.1, places-fit p hs l f.2)
+          | false ↦ (f.0, places-fit p ms l f.1, All-append (New dist) (move_places R ls ms p a) (places R ls hs p) (move_places_fit p a ms l f.0 f.1) (places-fit p hs l f.2))
         ]
     new-fits (sum t ks) f l =
         all_cross (new_term R ls) (λ k. New state k.node) ks (row R p) f

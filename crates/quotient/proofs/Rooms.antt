@@ -87,8 +87,8 @@ module _ (A : ActionSet) (R : Meaning) (t : Tables) (root : ℕ) (d : Dividable 
   pub node-count : (n r : ℕ) → n ≡ R.states → r ≡ length (rows R) → (count : ℕ) → count ≡ width_before n r t.nodes.now (length t.nodes.now) → count ≡ length Q
   node-count n r en er count e = e ∙ sym (nodes_needed (has A) R n r en er t.nodes.now t.terms.now t.alternatives.now)
 
-  pub term-count : LayoutLaw → (count : ℕ) → count ≡ topped (length t.terms.now * all_targets R) → count ≡ topped (length (term_table Q))
-  term-count layout count e =
+  pub term_count : LayoutLaw → (count : ℕ) → count ≡ topped (length t.terms.now * all_targets R) → count ≡ topped (length (term_table Q))
+  term_count layout count e =
       let same = (layout t.nodes.now t.terms.now t.alternatives.now root d.removed d.held).1 in
       e ∙ ap (λ l. topped (length l * all_targets R)) (sym same) ∙ ap topped (sym (terms_needed (has A) R ls))
 

@@ -22,15 +22,15 @@ use Rattle.quotient.proofs.Places.{new-length, quotient-length, point-row}
 use Rattle.quotient.proofs.Planning.{no_node}
 use Rattle.quotient.proofs.Dividing.{place_at}
 
-abbrev term-count : Line → ℕ
-term-count l = length (terms_in l)
+abbrev term_count : Line → ℕ
+term_count l = length (terms_in l)
 
 abbrev alternative-count : Line → ℕ
 alternative-count l = length (alternatives_in l)
 
-count-terms : (ls : List Line) → length (term_table ls) ≡ sum_by term-count ls
+count-terms : (ls : List Line) → length (term_table ls) ≡ sum_by term_count ls
 count-terms [] = refl
-count-terms (l ∷ ls) = length-append (terms_in l) (term_table ls) ∙ ap (λ n. term-count l + n) (count-terms ls) ∙ sym (sum_by-cons term-count l ls)
+count-terms (l ∷ ls) = length-append (terms_in l) (term_table ls) ∙ ap (λ n. term_count l + n) (count-terms ls) ∙ sym (sum_by-cons term_count l ls)
 
 count-alternatives : (ls : List Line) → length (alternative_table ls) ≡ sum_by alternative-count ls
 count-alternatives [] = refl
@@ -78,19 +78,19 @@ module _ (A : ℕ → Bool) (R : Meaning) (ls : List Line) where
   none_given w f h [] = refl
   none_given w f h (p ∷ ps) = omega (arith, sum_by-cons w (f p) (map f ps), h p, none_given w f h ps)
 
-  no-terms : (b : Bool) (a : ℕ) (ms hs : List ℕ) (p : ℕ) → term-count (new_step b R ls a ms hs p) ≡ 0
+  no-terms : (b : Bool) (a : ℕ) (ms hs : List ℕ) (p : ℕ) → term_count (new_step b R ls a ms hs p) ≡ 0
   no-terms true a ms hs p = refl
   no-terms false a ms hs p = refl
 
-  terms_given : (l : Line) → sum_by term-count (new_lines A R ls l) ≡ all_targets R * term-count l
+  terms_given : (l : Line) → sum_by term_count (new_lines A R ls l) ≡ all_targets R * term_count l
   unfolding new_line
-  terms_given (constant σ b) = none_given term-count (λ p. constant σ b) (λ p. refl) (range_with_len 0 (width R σ)) ∙ sym (mul-zero (all_targets R))
-  terms_given (both σ i j) = none_given term-count (λ p. both σ (place R ls i p) (place R ls j p)) (λ p. refl) (range_with_len 0 (width R σ)) ∙ sym (mul-zero (all_targets R))
-  terms_given (non σ i) = none_given term-count (λ p. non σ (place R ls i p)) (λ p. refl) (range_with_len 0 (width R σ)) ∙ sym (mul-zero (all_targets R))
-  terms_given (step a ms hs) = none_given term-count (new_step (A a) R ls a ms hs) (no-terms (A a) a ms hs) (range_with_len 0 R.states) ∙ sym (mul-zero (all_targets R))
+  terms_given (constant σ b) = none_given term_count (λ p. constant σ b) (λ p. refl) (range_with_len 0 (width R σ)) ∙ sym (mul-zero (all_targets R))
+  terms_given (both σ i j) = none_given term_count (λ p. both σ (place R ls i p) (place R ls j p)) (λ p. refl) (range_with_len 0 (width R σ)) ∙ sym (mul-zero (all_targets R))
+  terms_given (non σ i) = none_given term_count (λ p. non σ (place R ls i p)) (λ p. refl) (range_with_len 0 (width R σ)) ∙ sym (mul-zero (all_targets R))
+  terms_given (step a ms hs) = none_given term_count (new_step (A a) R ls a ms hs) (no-terms (A a) a ms hs) (range_with_len 0 R.states) ∙ sym (mul-zero (all_targets R))
   terms_given (sum t ks) =
-      ap (sum_by term-count) (looked_up (λ mv. sum (t * R.mass) (cross (new_term R ls) ks mv)) [] (rows R))
-      ∙ sum_by_map term-count (λ mv. sum (t * R.mass) (cross (new_term R ls) ks mv)) (rows R)
+      ap (sum_by term_count) (looked_up (λ mv. sum (t * R.mass) (cross (new_term R ls) ks mv)) [] (rows R))
+      ∙ sum_by_map term_count (λ mv. sum (t * R.mass) (cross (new_term R ls) ks mv)) (rows R)
       ∙ sum_by_eq (rows R) (λ mv. length-cross (new_term R ls) ks mv)
       ∙ sum_by_mul (length ks) length (rows R)
       ∙ ap (λ n. length ks * n) (rows_targets R)
@@ -99,10 +99,10 @@ module _ (A : ℕ → Bool) (R : Meaning) (ls : List Line) where
   pub terms_needed : length (term_table (quotient_lines A R ls)) ≡ length (term_table ls) * all_targets R
   terms_needed =
       count-terms (quotient_lines A R ls)
-      ∙ sum_by_joined term-count (new_lines A R ls) ls
+      ∙ sum_by_joined term_count (new_lines A R ls) ls
       ∙ sum_by_eq ls terms_given
-      ∙ sum_by_mul (all_targets R) term-count ls
-      ∙ mul_comm (all_targets R) (sum_by term-count ls)
+      ∙ sum_by_mul (all_targets R) term_count ls
+      ∙ mul_comm (all_targets R) (sum_by term_count ls)
       ∙ ap (λ n. n * all_targets R) (sym (count-terms ls))
 
   crossed : (a p m h : ℕ) (ms hs : List ℕ) → length ms ≡ m → length hs ≡ h → length (cross (place R ls) ms (move_rows R p a) ++ places R ls hs p) ≡ m * length (R.moves p a) + h

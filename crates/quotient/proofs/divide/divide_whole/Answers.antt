@@ -3,7 +3,7 @@ use Rattle.formulas.specs.Tables.{slots}
 use Rattle.quotient.specs.Divisions.{whole_remainder}
 use Rattle.quotient.proofs.Dividing.{place_at}
 use Rattle.quotient.proofs.Laying.{room}
-use Rattle.quotient.proofs.Rooms.{takes_same, takes-topped, exact, short-nodes, short-terms, short-alternatives, all_fit, found, too_many, node-count, term-count, alternative-count, root-inside}
+use Rattle.quotient.proofs.Rooms.{takes_same, takes-topped, exact, short-nodes, short-terms, short-alternatives, all_fit, found, too_many, node-count, term_count, alternative-count, root-inside}
 use Rattle.quotient.proofs.divide.divide_whole.Goals as goal
 
 pub returns-then-used-gt-MOST_NODES : goal.returns-then-used-gt-MOST_NODES
@@ -29,7 +29,7 @@ returns-then-not-has_room-2 g c =
     let u = c.args.used in
     let Q = whole_remainder c.args.shared R u c.args.root in
     let second = slots c.args.nodes.now c.args.terms.now c.args.alternatives.now in
-    let terms = term-count c.args.shared R u c.args.root c.requires c.layout_stands.ensures.tables _ c.terms_need-term_need.ensures in
+    let terms = term_count c.args.shared R u c.args.root c.requires c.layout_stands.ensures.tables _ c.terms_need-term_need.ensures in
     record { value = short-terms Q second (takes-topped _ _ _ _ terms c.if-not-has_room-2.ensures); tables = refl }
 
 pub returns-then-not-has_room-3 : goal.returns-then-not-has_room-3
@@ -48,7 +48,7 @@ write-requires g c =
     let Q = whole_remainder c.args.shared R u c.args.root in
     let second = slots c.args.nodes.now c.args.terms.now c.args.alternatives.now in
     let nodes = node-count c.args.shared R u c.args.root c.requires _ _ c.states-states.ensures c.fill_firsts-rows.ensures.rows _ c.fill_offsets-node_need.ensures.total in
-    let terms = term-count c.args.shared R u c.args.root c.requires c.layout_stands.ensures.tables _ c.terms_need-term_need.ensures in
+    let terms = term_count c.args.shared R u c.args.root c.requires c.layout_stands.ensures.tables _ c.terms_need-term_need.ensures in
     let alternatives = alternative-count c.args.shared R u c.args.root c.requires _ c.alternatives_need-alternative_need.ensures in
     record {
       planned = record {
@@ -99,7 +99,7 @@ returns g c =
     let Q = whole_remainder c.args.shared R u c.args.root in
     let second = slots c.args.nodes.now c.args.terms.now c.args.alternatives.now in
     let nodes = node-count c.args.shared R u c.args.root c.requires _ _ c.states-states.ensures c.fill_firsts-rows.ensures.rows _ c.fill_offsets-node_need.ensures.total in
-    let terms = term-count c.args.shared R u c.args.root c.requires c.layout_stands.ensures.tables _ c.terms_need-term_need.ensures in
+    let terms = term_count c.args.shared R u c.args.root c.requires c.layout_stands.ensures.tables _ c.terms_need-term_need.ensures in
     let alternatives = alternative-count c.args.shared R u c.args.root c.requires _ c.alternatives_need-alternative_need.ensures in
     let fit = all_fit Q second (takes_same _ _ _ _ nodes c.if-not-has_room.ensures) (takes-topped _ _ _ _ terms c.if-not-has_room-2.ensures) (takes-topped _ _ _ _ alternatives c.if-not-has_room-3.ensures) in
     let root = c.place.ensures ∙ place_at R _ _ c.states-states.ensures c.fill_firsts-rows.ensures.rows u.terms.now u.alternatives.now u.nodes.now c.args.root 0 in
