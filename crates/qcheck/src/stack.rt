@@ -1,7 +1,7 @@
 // Judging a claim on systems piled over one another.
 ghost use Rattle.std.specs.Prelude.{◌≡◌, ◌≤◌, length, IfOk};
 ghost use Rattle.systems.specs.Any.{any_meaning};
-ghost use Rattle.qcheck.specs.Answers.{answer_on, answer_over, answer_to, meanings, ToldOver};
+ghost use Rattle.qcheck.specs.Answers.{answer_on, answer_over, answer_to, meanings, Told, ToldOver};
 
 use crate::refused::{Refused, by_number};
 use claims::claim::Claim;
@@ -14,8 +14,8 @@ use systems::any::AnySystem;
 use systems::pile::Pile;
 use systems::system::System;
 
-// How many systems one command may pile over another.
-const MOST_PILED: usize = 5;
+// How many systems one command may pile.
+pub const MOST_PILED: usize = 6;
 
 // How long a truth table the program makes at most; a longer need is refused by the call.
 const LONGEST_TABLE: u64 = 268435456;
@@ -38,7 +38,8 @@ pub enum Answer {
 
 // Judges on one system, with tables of its own.
 fn judge_one<S: System>(bench: &Bench, system: &S) -> Result<Answer, AllocError>
-    ensures { IfOk result (λ a. a ≡ answer_on (S.System.meaning system.now) bench.now.claim.now bench.now.tables) }
+    ensures told { IfOk result (Told (S.System.meaning system.now) bench.now.claim.now bench.now.tables) }
+    ensures answer { IfOk result (λ a. a ≡ answer_on (S.System.meaning system.now) bench.now.claim.now bench.now.tables) }
 {
     let nodes = bench.claim.fills().nodes;
     let need = nodes as u64 * system.states() as u64;
@@ -69,16 +70,19 @@ macro_rules! judge_piled {
     };
 }
 
-// Judges on six systems: none is left in the stack.
+// Judges on six systems; a pile of more is refused.
 fn judge_six<S: System + Drop>(
     bench: &Bench,
     stack: &mut Vec<Rc<AnySystem>>,
     system: S,
 ) -> Result<Answer, AllocError>
-    requires { length stack.old.items ≤ 0 }
-    ensures { IfOk result (λ a. a ≡ answer_over (meanings stack.old.items) (S.System.meaning system) bench.now.claim.now bench.now.tables) }
+    ensures told { IfOk result (ToldOver stack.old.items (S.System.meaning system) bench.now.claim.now bench.now.tables) }
+    ensures answer { length stack.old.items ≤ 0 → IfOk result (λ a. a ≡ answer_over (meanings stack.old.items) (S.System.meaning system) bench.now.claim.now bench.now.tables) }
 {
-    judge_one(bench, &system)
+    match stack.pop() {
+        None => judge_one(bench, &system),
+        Some(_) => Ok(Answer::TooMany),
+    }
 }
 
 fn judge_five<S: System + Drop>(
@@ -86,8 +90,8 @@ fn judge_five<S: System + Drop>(
     stack: &mut Vec<Rc<AnySystem>>,
     system: S,
 ) -> Result<Answer, AllocError>
-    requires { length stack.old.items ≤ 1 }
-    ensures { IfOk result (λ a. a ≡ answer_over (meanings stack.old.items) (S.System.meaning system) bench.now.claim.now bench.now.tables) }
+    ensures told { IfOk result (ToldOver stack.old.items (S.System.meaning system) bench.now.claim.now bench.now.tables) }
+    ensures answer { length stack.old.items ≤ 1 → IfOk result (λ a. a ≡ answer_over (meanings stack.old.items) (S.System.meaning system) bench.now.claim.now bench.now.tables) }
 {
     judge_piled!(bench, stack, system, judge_six)
 }
@@ -97,8 +101,8 @@ fn judge_four<S: System + Drop>(
     stack: &mut Vec<Rc<AnySystem>>,
     system: S,
 ) -> Result<Answer, AllocError>
-    requires { length stack.old.items ≤ 2 }
-    ensures { IfOk result (λ a. a ≡ answer_over (meanings stack.old.items) (S.System.meaning system) bench.now.claim.now bench.now.tables) }
+    ensures told { IfOk result (ToldOver stack.old.items (S.System.meaning system) bench.now.claim.now bench.now.tables) }
+    ensures answer { length stack.old.items ≤ 2 → IfOk result (λ a. a ≡ answer_over (meanings stack.old.items) (S.System.meaning system) bench.now.claim.now bench.now.tables) }
 {
     judge_piled!(bench, stack, system, judge_five)
 }
@@ -108,8 +112,8 @@ fn judge_three<S: System + Drop>(
     stack: &mut Vec<Rc<AnySystem>>,
     system: S,
 ) -> Result<Answer, AllocError>
-    requires { length stack.old.items ≤ 3 }
-    ensures { IfOk result (λ a. a ≡ answer_over (meanings stack.old.items) (S.System.meaning system) bench.now.claim.now bench.now.tables) }
+    ensures told { IfOk result (ToldOver stack.old.items (S.System.meaning system) bench.now.claim.now bench.now.tables) }
+    ensures answer { length stack.old.items ≤ 3 → IfOk result (λ a. a ≡ answer_over (meanings stack.old.items) (S.System.meaning system) bench.now.claim.now bench.now.tables) }
 {
     judge_piled!(bench, stack, system, judge_four)
 }
@@ -119,8 +123,8 @@ fn judge_two<S: System + Drop>(
     stack: &mut Vec<Rc<AnySystem>>,
     system: S,
 ) -> Result<Answer, AllocError>
-    requires { length stack.old.items ≤ 4 }
-    ensures { IfOk result (λ a. a ≡ answer_over (meanings stack.old.items) (S.System.meaning system) bench.now.claim.now bench.now.tables) }
+    ensures told { IfOk result (ToldOver stack.old.items (S.System.meaning system) bench.now.claim.now bench.now.tables) }
+    ensures answer { length stack.old.items ≤ 4 → IfOk result (λ a. a ≡ answer_over (meanings stack.old.items) (S.System.meaning system) bench.now.claim.now bench.now.tables) }
 {
     judge_piled!(bench, stack, system, judge_three)
 }
@@ -130,8 +134,8 @@ fn judge_over(
     stack: &mut Vec<Rc<AnySystem>>,
     lowest: Rc<AnySystem>,
 ) -> Result<Answer, AllocError>
-    requires { length stack.old.items ≤ 5 }
-    ensures { IfOk result (λ a. a ≡ answer_over (meanings stack.old.items) (any_meaning lowest.value) bench.now.claim.now bench.now.tables) }
+    ensures told { IfOk result (ToldOver stack.old.items (any_meaning lowest.value) bench.now.claim.now bench.now.tables) }
+    ensures answer { length stack.old.items ≤ 5 → IfOk result (λ a. a ≡ answer_over (meanings stack.old.items) (any_meaning lowest.value) bench.now.claim.now bench.now.tables) }
 {
     judge_piled!(bench, stack, lowest, judge_two)
 }
@@ -145,7 +149,7 @@ pub fn judge_stack(
     ensures told { IfOk result (ToldOver stack.old.items (any_meaning lowest.value) bench.now.claim.now bench.now.tables) }
     ensures answer { IfOk result (λ a. a ≡ answer_to (meanings stack.old.items) (any_meaning lowest.value) bench.now.claim.now bench.now.tables) }
 {
-    if stack.len() > MOST_PILED {
+    if stack.len() >= MOST_PILED {
         return Ok(Answer::TooMany);
     }
     judge_over(bench, stack, lowest)

@@ -1,19 +1,18 @@
 use Rattle.std.proofs.Common.{vec_items, rc_value, arith}
 use Rattle.systems.specs.Any.{any_meaning}
-use Rattle.qcheck.proofs.Towers.{told-within, told_beyond, told_all}
+use Rattle.qcheck.proofs.Towers.{answered-within, answered_beyond}
 use Rattle.qcheck.proofs.stack.judge_stack.Goals as goal
 
-pub returns-then-len-gt-MOST_PILED : goal.returns-then-len-gt-MOST_PILED
-returns-then-len-gt-MOST_PILED c =
+pub returns-then-len-ge-MOST_PILED : goal.returns-then-len-ge-MOST_PILED
+returns-then-len-ge-MOST_PILED c =
     record {
       told = tt;
-      answer = told_beyond (vec_items c.args.stack.now) (any_meaning (rc_value c.args.lowest)) c.args.bench.now.claim.now c.args.bench.now.tables (omega (arith, c.len.ensures, c.if-len-gt-MOST_PILED.true));
+      answer = answered_beyond (vec_items c.args.stack.now) (any_meaning (rc_value c.args.lowest)) c.args.bench.now.claim.now c.args.bench.now.tables (omega (arith, c.len.ensures, c.if-len-ge-MOST_PILED.true));
     }
 
 pub returns : goal.returns
 returns c =
-    let answer = told-within (vec_items c.args.stack.now) (any_meaning (rc_value c.args.lowest)) c.args.bench.now.claim.now c.args.bench.now.tables c.judge_over.result (omega (arith, c.len.ensures, c.if-len-gt-MOST_PILED.false)) c.judge_over.ensures in
     record {
-      told = told_all (vec_items c.args.stack.now) (any_meaning (rc_value c.args.lowest)) c.args.bench.now.claim.now c.args.bench.now.tables c.judge_over.result answer;
-      answer = answer;
+      told = c.judge_over.ensures.told;
+      answer = answered-within (vec_items c.args.stack.now) (any_meaning (rc_value c.args.lowest)) c.args.bench.now.claim.now c.args.bench.now.tables c.judge_over.result (omega (arith, c.len.ensures, c.if-len-ge-MOST_PILED.false)) (c.judge_over.ensures.answer (omega (arith, c.len.ensures, c.if-len-ge-MOST_PILED.false)));
     }
