@@ -6,6 +6,9 @@ usage: python3 tools/respell.py [--dry]     at the top of the repository, once, 
 Definitions, lemmas, fields, constructors and local aliases of specs/ and proofs/ go to snake case, types to
 upper camel case. A dash stays where it joins a lemma's two names, and beside an operator. Functions of src/ keep
 their names, and so do goals, which Rattle names.
+
+Two more things of spelling that port.py leaves: the library's AllByRecursion goes by that name, since the gate takes
+no other thing under the name All; and in a clause a bound's member `meaning` is written with its type, as `S.meaning`.
 """
 
 import os
@@ -86,14 +89,14 @@ def gather():
                 if m and not (made and (m.group(2) or "").startswith("goal.")):
                     signature = m.group(2) or ""
                     is_type = re.search(r"Type( \d+)?\s*$", signature) is not None
-                    states = lemma_file or re.search("[≡<≤]", signature) is not None
-                    if not states:
+                    if not lemma_file:
                         DEFINED.add(m.group(1))
-                    found.setdefault(m.group(1), ("type" if is_type and m.group(1)[:1].isupper() else "word", states and not is_type))
+                    found.setdefault(m.group(1), ("type" if is_type and m.group(1)[:1].isupper() else "word", False))
             elif body:
                 m = re.match(r"^\s+(?:pub )?([^\s:(){}]+(?: [^\s:(){}]+)*)\s*:", line)
                 if m:
                     for name in m.group(1).split():
+                        DEFINED.add(name)
                         found.setdefault(name, ("field", False))
     for path in texts(".rt"):
         for line in read(path).split("\n"):
@@ -149,7 +152,7 @@ def turn_code(text, turned):
 
 
 FIELDS = set()
-# what a block of specs/ defines: a lemma elsewhere may have the same name
+# fields, and what a block of specs/ defines: a lemma elsewhere may have the same name
 DEFINED = set()
 
 
@@ -206,6 +209,22 @@ def falls_together(turned, found):
                 print("hides:", path, old, "->", turned[old])
 
 
+def own_all(text):
+    """Where a file takes AllByRecursion under the name All, it takes it under its own."""
+    for long, short in re.findall(r"(\w+ByRecursion) as (\w+)", text):
+        text = text.replace(f"{long} as {short}", long)
+        text = TOKEN.sub(lambda m: long if m.group(0) == short else m.group(0), text)
+    return text
+
+
+def with_type(path, text):
+    """The clauses of a file, with `meaning` as the bound's; the trait itself has it as its own."""
+    if not path.endswith(".rt") or path.endswith("/system.rt"):
+        return text
+    is_clause = re.compile(r"\s*(requires|ensures)\b")
+    return "\n".join(re.sub(r"(?<![.\w'])meaning(?![\w'])", "S.meaning", l) if is_clause.match(l) else l for l in text.split("\n"))
+
+
 def main():
     found = gather()
     FIELDS.update(n for n, (k, _) in found.items() if k == "field")
@@ -217,7 +236,7 @@ def main():
         return
     for path in list(texts(".antt")) + list(texts(".rt")):
         old = read(path)
-        new = turn(path, turned)
+        new = with_type(path, own_all(turn(path, turned)))
         if new != old:
             with open(path, "w", encoding="utf-8") as f:
                 f.write(new)

@@ -6,7 +6,7 @@ ghost use Rattle.claims.specs.Claims.{stands_in, Opened};
 use crate::case::{Case, MOST_ENTRIES, Store, remove_from};
 use crate::refused::{by_mount, by_number, by_read, print_refusal};
 use crate::show::print_claim;
-use crate::stack::{Answer, Bench, judge_stack};
+use crate::stack::{Answer, Bench, MOST_PILED, judge_stack};
 use crate::words::{action_set, joined, misread, number, promise_text, split, target};
 use anyhow::anyhow;
 use claims::claim::Claim;
@@ -307,7 +307,7 @@ impl Session {
                 return Err(misread(self.heap, "in place of over:", word));
             }
         }
-        if words.len() % 2 == 0 {
+        if words.len() % 2 == 0 || stack.len() > MOST_PILED {
             return Err(anyhow!(WRONG_STACK));
         }
         Ok(stack)

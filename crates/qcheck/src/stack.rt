@@ -81,7 +81,7 @@ fn judge_six<S: System + Drop>(
 {
     match stack.pop() {
         None => judge_one(bench, &system),
-        Some(_) => Ok(Answer::TooMany),
+        Some(_) => Ok(Answer::Refused(by_number(9))),
     }
 }
 
