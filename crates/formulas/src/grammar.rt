@@ -41,7 +41,7 @@ fn dist_constant(yes: bool) -> Node
 }
 
 // A state term: answers the number of its node.
-#[cycle(at_least_diamond_dist_inside_dist_negation_dist_pair_dist_term_element_here_product_quantity_several_single_state_inside_state_negation_state_pair_state_term_sum_sum_inside)]
+#[cycle(readers)]
 pub(crate) fn state_term(
     words: &mut Words,
     nodes: &mut AppendList<Node>,
@@ -59,7 +59,7 @@ pub(crate) fn state_term(
 }
 
 // A state term behind its parenthesis and its first token.
-#[cycle(at_least_diamond_dist_inside_dist_negation_dist_pair_dist_term_element_here_product_quantity_several_single_state_inside_state_negation_state_pair_state_term_sum_sum_inside)]
+#[cycle(readers)]
 fn state_inside(
     words: &mut Words,
     nodes: &mut AppendList<Node>,
@@ -80,7 +80,7 @@ fn state_inside(
     }
 }
 
-#[cycle(at_least_diamond_dist_inside_dist_negation_dist_pair_dist_term_element_here_product_quantity_several_single_state_inside_state_negation_state_pair_state_term_sum_sum_inside)]
+#[cycle(readers)]
 fn state_pair(
     words: &mut Words,
     nodes: &mut AppendList<Node>,
@@ -97,7 +97,7 @@ fn state_pair(
     Ok(nodes.put(Node::State(StateNode::And(a, b))))
 }
 
-#[cycle(at_least_diamond_dist_inside_dist_negation_dist_pair_dist_term_element_here_product_quantity_several_single_state_inside_state_negation_state_pair_state_term_sum_sum_inside)]
+#[cycle(readers)]
 fn state_negation(
     words: &mut Words,
     nodes: &mut AppendList<Node>,
@@ -173,7 +173,7 @@ fn put_sum(
     nodes.put(Node::Dist(DistNode::Sum { threshold, terms }))
 }
 
-#[cycle(at_least_diamond_dist_inside_dist_negation_dist_pair_dist_term_element_here_product_quantity_several_single_state_inside_state_negation_state_pair_state_term_sum_sum_inside)]
+#[cycle(readers)]
 fn diamond(
     words: &mut Words,
     nodes: &mut AppendList<Node>,
@@ -190,7 +190,7 @@ fn diamond(
     Ok(put_move(nodes, alternatives, action as u32, d))
 }
 
-#[cycle(at_least_diamond_dist_inside_dist_negation_dist_pair_dist_term_element_here_product_quantity_several_single_state_inside_state_negation_state_pair_state_term_sum_sum_inside)]
+#[cycle(readers)]
 fn here(
     words: &mut Words,
     nodes: &mut AppendList<Node>,
@@ -207,7 +207,7 @@ fn here(
 }
 
 // A distribution term: answers the number of its node.
-#[cycle(at_least_diamond_dist_inside_dist_negation_dist_pair_dist_term_element_here_product_quantity_several_single_state_inside_state_negation_state_pair_state_term_sum_sum_inside)]
+#[cycle(readers)]
 fn dist_term(
     words: &mut Words,
     nodes: &mut AppendList<Node>,
@@ -225,7 +225,7 @@ fn dist_term(
 }
 
 // A distribution term behind its parenthesis and its first token.
-#[cycle(at_least_diamond_dist_inside_dist_negation_dist_pair_dist_term_element_here_product_quantity_several_single_state_inside_state_negation_state_pair_state_term_sum_sum_inside)]
+#[cycle(readers)]
 fn dist_inside(
     words: &mut Words,
     nodes: &mut AppendList<Node>,
@@ -245,7 +245,7 @@ fn dist_inside(
     }
 }
 
-#[cycle(at_least_diamond_dist_inside_dist_negation_dist_pair_dist_term_element_here_product_quantity_several_single_state_inside_state_negation_state_pair_state_term_sum_sum_inside)]
+#[cycle(readers)]
 fn dist_pair(
     words: &mut Words,
     nodes: &mut AppendList<Node>,
@@ -262,7 +262,7 @@ fn dist_pair(
     Ok(nodes.put(Node::Dist(DistNode::And(a, b))))
 }
 
-#[cycle(at_least_diamond_dist_inside_dist_negation_dist_pair_dist_term_element_here_product_quantity_several_single_state_inside_state_negation_state_pair_state_term_sum_sum_inside)]
+#[cycle(readers)]
 fn dist_negation(
     words: &mut Words,
     nodes: &mut AppendList<Node>,
@@ -278,7 +278,7 @@ fn dist_negation(
     Ok(nodes.put(Node::Dist(DistNode::Not(a))))
 }
 
-#[cycle(at_least_diamond_dist_inside_dist_negation_dist_pair_dist_term_element_here_product_quantity_several_single_state_inside_state_negation_state_pair_state_term_sum_sum_inside)]
+#[cycle(readers)]
 fn at_least(
     words: &mut Words,
     nodes: &mut AppendList<Node>,
@@ -296,7 +296,7 @@ fn at_least(
 }
 
 // The sum of a threshold: its terms are kept until the threshold closes.
-#[cycle(at_least_diamond_dist_inside_dist_negation_dist_pair_dist_term_element_here_product_quantity_several_single_state_inside_state_negation_state_pair_state_term_sum_sum_inside)]
+#[cycle(readers)]
 fn sum(
     words: &mut Words,
     nodes: &mut AppendList<Node>,
@@ -313,7 +313,7 @@ fn sum(
     }
 }
 
-#[cycle(at_least_diamond_dist_inside_dist_negation_dist_pair_dist_term_element_here_product_quantity_several_single_state_inside_state_negation_state_pair_state_term_sum_sum_inside)]
+#[cycle(readers)]
 fn sum_inside(
     words: &mut Words,
     nodes: &mut AppendList<Node>,
@@ -332,7 +332,7 @@ fn sum_inside(
     }
 }
 
-#[cycle(at_least_diamond_dist_inside_dist_negation_dist_pair_dist_term_element_here_product_quantity_several_single_state_inside_state_negation_state_pair_state_term_sum_sum_inside)]
+#[cycle(readers)]
 fn single(
     words: &mut Words,
     nodes: &mut AppendList<Node>,
@@ -349,7 +349,7 @@ fn single(
     Ok(found)
 }
 
-#[cycle(at_least_diamond_dist_inside_dist_negation_dist_pair_dist_term_element_here_product_quantity_several_single_state_inside_state_negation_state_pair_state_term_sum_sum_inside)]
+#[cycle(readers)]
 fn several(
     words: &mut Words,
     nodes: &mut AppendList<Node>,
@@ -371,7 +371,7 @@ fn several(
 }
 
 // One of several products, behind its parenthesis `x`.
-#[cycle(at_least_diamond_dist_inside_dist_negation_dist_pair_dist_term_element_here_product_quantity_several_single_state_inside_state_negation_state_pair_state_term_sum_sum_inside)]
+#[cycle(readers)]
 fn element(
     words: &mut Words,
     nodes: &mut AppendList<Node>,
@@ -392,7 +392,7 @@ fn element(
 }
 
 // A product behind its `*`, of a coefficient of at most `left`.
-#[cycle(at_least_diamond_dist_inside_dist_negation_dist_pair_dist_term_element_here_product_quantity_several_single_state_inside_state_negation_state_pair_state_term_sum_sum_inside)]
+#[cycle(readers)]
 fn product(
     words: &mut Words,
     nodes: &mut AppendList<Node>,
@@ -410,7 +410,7 @@ fn product(
     Ok(Term { coefficient, node })
 }
 
-#[cycle(at_least_diamond_dist_inside_dist_negation_dist_pair_dist_term_element_here_product_quantity_several_single_state_inside_state_negation_state_pair_state_term_sum_sum_inside)]
+#[cycle(readers)]
 fn quantity(
     words: &mut Words,
     nodes: &mut AppendList<Node>,

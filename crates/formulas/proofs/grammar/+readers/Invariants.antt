@@ -3,7 +3,7 @@ use Rattle.std.proofs.Common.{◌≡◌}
 use Rattle.formulas.specs.Stores.{store}
 use Rattle.formulas.proofs.Summing.{Partly}
 use Rattle.formulas.proofs.Taking.{measure}
-use Rattle.formulas.proofs.grammar.+at_least_diamond_dist_inside_dist_negation_dist_pair_dist_term_element_here_product_quantity_several_single_state_inside_state_negation_state_pair_state_term_sum_sum_inside.Given as goal
+use Rattle.formulas.proofs.grammar.+readers.Given as goal
 
 abbrev pub decreases-at_least : goal.decreases-at_least
 decreases-at_least l = measure l.words.now 1

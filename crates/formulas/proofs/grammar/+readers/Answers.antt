@@ -3,7 +3,7 @@ use Rattle.formulas.proofs.Parsing.{term-starts, sum_starts_as, quantity_starts,
 use Rattle.formulas.proofs.Storing.{leaf-wrote, neg-wrote, conj-wrote, dia-wrote, here-wrote, at_least_wrote, none_summed, one_summed}
 use Rattle.formulas.proofs.Summing.{partly_none, partly_end, partly_stopped, partly_refused, partly_more}
 use Rattle.formulas.proofs.Taking.{nothing_read, refused-first, known, as_if, stopped, and_so, and_as, and_then}
-use Rattle.formulas.proofs.grammar.+at_least_diamond_dist_inside_dist_negation_dist_pair_dist_term_element_here_product_quantity_several_single_state_inside_state_negation_state_pair_state_term_sum_sum_inside.Goals as goal
+use Rattle.formulas.proofs.grammar.+readers.Goals as goal
 
 pub state_term-returns-in_err-yes : goal.state_term-returns-in_err-yes
 state_term-returns-in_err-yes t c =
