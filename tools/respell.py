@@ -7,8 +7,9 @@ Definitions, lemmas, fields, constructors and local aliases of specs/ and proofs
 upper camel case. A dash stays where it joins a lemma's two names, and beside an operator. Functions of src/ keep
 their names, and so do goals, which Rattle names.
 
-Two more things of spelling that port.py leaves: the library's AllByRecursion goes by that name, since the gate takes
-no other thing under the name All; and in a clause a bound's member `meaning` is written with its type, as `S.meaning`.
+Three more things of spelling that port.py leaves: the library's AllByRecursion goes by that name, since the gate takes
+no other thing under the name All; in a clause a bound's member `meaning` is written with its type, as `S.meaning`; and
+`x.entry.now` and `x.exit.now` of a `&mut` are `x.old` and `x.new`.
 """
 
 import os
@@ -218,11 +219,16 @@ def own_all(text):
 
 
 def with_type(path, text):
-    """The clauses of a file, with `meaning` as the bound's; the trait itself has it as its own."""
+    """The clauses of a file, with `meaning` as the bound's (the trait itself has it as its own), and with old and new values."""
     if not path.endswith(".rt") or path.endswith("/system.rt"):
         return text
     is_clause = re.compile(r"\s*(requires|ensures)\b")
-    return "\n".join(re.sub(r"(?<![.\w'])meaning(?![\w'])", "S.meaning", l) if is_clause.match(l) else l for l in text.split("\n"))
+
+    def turned(line):
+        line = re.sub(r"(?<![.\w'])meaning(?![\w'])", "S.meaning", line)
+        return line.replace(".entry.now", ".old").replace(".exit.now", ".new")
+
+    return "\n".join(turned(l) if is_clause.match(l) else l for l in text.split("\n"))
 
 
 def main():

@@ -34,7 +34,7 @@ fn whole(
     terms: &mut [Term],
     alternatives: &mut [u32],
 ) -> Result<(Fills, u32), GrammarFault>
-    ensures { Whole (parse text.now) (record { nodes = nodes.entry.now; terms = terms.old; alternatives = alternatives.old }) result (record { nodes = nodes.exit.now; terms = terms.new; alternatives = alternatives.new }) }
+    ensures { Whole (parse text.now) (record { nodes = nodes.old; terms = terms.old; alternatives = alternatives.old }) result (record { nodes = nodes.new; terms = terms.new; alternatives = alternatives.new }) }
 {
     let mut words = Words::new(text);
     let mut nodes = AppendList::new(nodes);
@@ -76,7 +76,7 @@ fn read_twice(
     terms: &mut [Term],
     alternatives: &mut [u32],
 ) -> Result<Draft, ReadFault>
-    ensures { Reads (reading text.now (record { nodes = nodes.entry.now; terms = terms.old; alternatives = alternatives.old })) (record { nodes = nodes.entry.now; terms = terms.old; alternatives = alternatives.old }) result (record { nodes = nodes.exit.now; terms = terms.new; alternatives = alternatives.new }) }
+    ensures { Reads (reading text.now (record { nodes = nodes.old; terms = terms.old; alternatives = alternatives.old })) (record { nodes = nodes.old; terms = terms.old; alternatives = alternatives.old }) result (record { nodes = nodes.new; terms = terms.new; alternatives = alternatives.new }) }
 {
     let mut no_nodes: [Node; 0] = [];
     let mut no_terms: [Term; 0] = [];
@@ -96,7 +96,7 @@ pub fn read(
     terms: &mut [Term],
     alternatives: &mut [u32],
 ) -> Result<Draft, ReadFault>
-    ensures reads { Reads (reading text.now (record { nodes = nodes.entry.now; terms = terms.old; alternatives = alternatives.old })) (record { nodes = nodes.entry.now; terms = terms.old; alternatives = alternatives.old }) result (record { nodes = nodes.exit.now; terms = terms.new; alternatives = alternatives.new }) }
+    ensures reads { Reads (reading text.now (record { nodes = nodes.old; terms = terms.old; alternatives = alternatives.old })) (record { nodes = nodes.old; terms = terms.old; alternatives = alternatives.old }) result (record { nodes = nodes.new; terms = terms.new; alternatives = alternatives.new }) }
     ensures law { ReadingLaw }
 {
     read_twice(text, nodes, terms, alternatives)

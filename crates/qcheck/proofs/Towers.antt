@@ -16,7 +16,6 @@ use Rattle.systems.specs.Stacks.{stack}
 use Rattle.claims.specs.declared.claim.Claim.{Claim}
 use Rattle.claims.specs.declared.tables.Tables.{Tables}
 use Rattle.qcheck.specs.declared.stack.Answer.{Answer}
-use Rattle.qcheck.specs.declared.stack.Answer.TheVariants.{TooMany}
 use Rattle.qcheck.specs.Answers.{refused, answer_on, either_fault, pile_fault, unless, answer_over, answer_to, meanings, Told, tower, ToldOver}
 
 -- the last of the systems over S is the one next to it
@@ -102,8 +101,8 @@ answered-alone (x ∷ xs) S c t r none h = absurd (not-suc-le-zero none)
 -- as many as can be piled, or more
 pub answered-within : {Z E : Type 0} (xs : List (Rc AnySystem Z)) (S : Meaning) (c : Claim) (t : Tables) (r : Result Answer E) → length xs ≤ 5 → IfOk r (λ a. a ≡ answer_over (meanings xs) S c t) → IfOk r (λ a. a ≡ answer_to (meanings xs) S c t)
 answered-within xs S c t r few h =
-    subst (λ b. IfOk r (λ a. a ≡ cond b TooMany (answer_over (meanings xs) S c t))) (sym (le-ltb 5 (length (meanings xs)) (omega (arith, length-map xs (λ x. any_meaning (rc_value x)))))) h
+    subst (λ b. IfOk r (λ a. a ≡ cond b (refused 9) (answer_over (meanings xs) S c t))) (sym (le-ltb 5 (length (meanings xs)) (omega (arith, length-map xs (λ x. any_meaning (rc_value x)))))) h
 
-pub answered_beyond : {Z : Type 0} (xs : List (Rc AnySystem Z)) (S : Meaning) (c : Claim) (t : Tables) → 5 < length xs → TooMany ≡ answer_to (meanings xs) S c t
+pub answered_beyond : {Z : Type 0} (xs : List (Rc AnySystem Z)) (S : Meaning) (c : Claim) (t : Tables) → 5 < length xs → refused 9 ≡ answer_to (meanings xs) S c t
 answered_beyond xs S c t many =
-    ap (λ b. cond b TooMany (answer_over (meanings xs) S c t)) (sym (lt-ltb 5 (length (meanings xs)) (omega (arith, length-map xs (λ x. any_meaning (rc_value x))))))
+    ap (λ b. cond b (refused 9) (answer_over (meanings xs) S c t)) (sym (lt-ltb 5 (length (meanings xs)) (omega (arith, length-map xs (λ x. any_meaning (rc_value x))))))

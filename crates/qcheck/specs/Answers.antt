@@ -19,7 +19,7 @@ use Rattle.claims.specs.Claims.{formula}
 use Rattle.claims.specs.Refusals.{number}
 use Rattle.claims.specs.Verdicts.{verdict, judged}
 use Rattle.qcheck.specs.declared.stack.Answer.{Answer}
-use Rattle.qcheck.specs.declared.stack.Answer.TheVariants.{Said, Refused, TooMany}
+use Rattle.qcheck.specs.declared.stack.Answer.TheVariants.{Said, Refused}
 
 -- refused with a number, at no place
 abbrev pub refused : ℕ → Answer
@@ -51,9 +51,9 @@ unless None a = a
 abbrev pub answer_over : List Meaning → Meaning → Claim → Tables → Answer
 answer_over Ms S c t = unless (pile_fault (has c.shared) Ms S) (answer_on (stack (has c.shared) Ms S) c t)
 
--- at most five are piled over another
+-- at most five are piled over another; more are too large
 abbrev pub answer_to : List Meaning → Meaning → Claim → Tables → Answer
-answer_to Ms S c t = cond (nat_lt 5 (length Ms)) TooMany (answer_over Ms S c t)
+answer_to Ms S c t = cond (nat_lt 5 (length Ms)) (refused 9) (answer_over Ms S c t)
 
 -- what the systems of a stack mean
 abbrev pub meanings : {Z : Type 0} → List (Rc AnySystem Z) → List Meaning
@@ -63,7 +63,6 @@ meanings stack = map (λ s. any_meaning (rc_value s)) stack
 abbrev pub Told : Meaning → Claim → Tables → Answer → Type 0
 Told M c t (Said v) = v ≡ verdict (holds M (formula c t))
 Told M c t (Refused r) = Unit {0}
-Told M c t TooMany = Unit {0}
 
 -- systems piled over S, the first on top
 abbrev pub tower : (ℕ → Bool) → List Meaning → Meaning → Meaning

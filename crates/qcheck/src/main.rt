@@ -10,7 +10,6 @@ mod words;
 
 use anyhow::anyhow;
 use session::Session;
-use std::process::ExitCode;
 use std::{env, fs};
 
 // Runs one job; what cannot be understood is told with its line.
@@ -27,12 +26,11 @@ fn run_job(rt: &HostRuntime, path: &str, text: &str) -> anyhow::Result<()> {
     session.finish_component(rt)
 }
 
-// Runs the jobs that are named.
-fn run_jobs(rt: &HostRuntime) -> anyhow::Result<()> {
+fn main(rt: HostRuntime) -> anyhow::Result<()> {
     let mut given = false;
-    for path in env::args(rt)?.skip(1) {
+    for path in env::args(&rt)?.skip(1) {
         given = true;
-        let text = match fs::read_to_string(rt, path.as_str()) {
+        let text = match fs::read_to_string(&rt, path.as_str()) {
             Ok(text) => text,
             Err(fault) => {
                 let name = path.as_str();
@@ -40,19 +38,11 @@ fn run_jobs(rt: &HostRuntime) -> anyhow::Result<()> {
                 return Err(fault.into());
             }
         };
-        run_job(rt, path.as_str(), text.as_str())?;
+        run_job(&rt, path.as_str(), text.as_str())?;
     }
     if !given {
         eprintln!(rt; "usage: qcheck FILE..")?;
         return Err(anyhow!("no job is given"));
     }
     Ok(())
-}
-
-// What went wrong has been told, so it is not printed again.
-fn main(rt: HostRuntime) -> ExitCode {
-    match run_jobs(&rt) {
-        Ok(()) => ExitCode::SUCCESS,
-        Err(_) => ExitCode::FAILURE,
-    }
 }

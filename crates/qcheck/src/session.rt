@@ -32,8 +32,6 @@ use systems::system::{System, Target};
 // Beyond every limit of a component's tables.
 const LARGEST: usize = 1073741825;
 
-const WRONG_STACK: &str = "judge takes one to six systems, parted by over";
-
 #[derive(Drop)]
 struct Named {
     name: String,
@@ -308,7 +306,7 @@ impl Session {
             }
         }
         if words.len() % 2 == 0 || stack.len() > MOST_PILED {
-            return Err(anyhow!(WRONG_STACK));
+            return Err(anyhow!("judge takes one to six systems, parted by over"));
         }
         Ok(stack)
     }
@@ -342,7 +340,6 @@ impl Session {
             Answer::Said(Verdict::Yes) => println!(rt; "{written}: yes")?,
             Answer::Said(Verdict::No) => println!(rt; "{written}: no")?,
             Answer::Refused(refused) => print_refusal(rt, written.as_str(), refused)?,
-            Answer::TooMany => return Err(anyhow!(WRONG_STACK)),
         }
         Ok(())
     }

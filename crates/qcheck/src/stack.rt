@@ -32,8 +32,6 @@ pub struct Bench<'a> {
 pub enum Answer {
     Said(Verdict),
     Refused(Refused),
-    // More systems than can be piled.
-    TooMany,
 }
 
 // Judges on one system, with tables of its own.
@@ -150,7 +148,7 @@ pub fn judge_stack(
     ensures answer { IfOk result (λ a. a ≡ answer_to (meanings stack.old.items) (any_meaning lowest.value) bench.now.claim.now bench.now.tables) }
 {
     if stack.len() >= MOST_PILED {
-        return Ok(Answer::TooMany);
+        return Ok(Answer::Refused(by_number(9)));
     }
     judge_over(bench, stack, lowest)
 }

@@ -53,8 +53,8 @@ plain-dist x (dn.TheVariants.Not i) fit no-sum = omega (arith, fit.right, fit.in
 plain-dist x (dn.TheVariants.Sum t r) fit no-sum = absurd (no-sum t r refl)
 
 -- the parts of a node that fits are in the plan
-pub all-inside : (x : Plan) (n : Node) (fit : Fit x n) (ds : List ℕ) → AllByRecursion (λ d. d < fit.index) ds → AllByRecursion (λ d. d < length (plan_nodes x)) ds
-all-inside x n fit ds h = All-weaker (λ d. d < fit.index) (λ d. d < length (plan_nodes x)) (λ d k. omega (arith, fit.inside)) ds h
+pub all_inside : (x : Plan) (n : Node) (fit : Fit x n) (ds : List ℕ) → AllByRecursion (λ d. d < fit.index) ds → AllByRecursion (λ d. d < length (plan_nodes x)) ds
+all_inside x n fit ds h = All-weaker (λ d. d < fit.index) (λ d. d < length (plan_nodes x)) (λ d k. omega (arith, fit.inside)) ds h
 
 -- a number up to 1,000 × m, times the mass
 weighed : (m M c : ℕ) → m * M ≤ 1000000000000000 → c ≤ 1000 * m → c * M ≤ 1000000000000000000

@@ -134,10 +134,10 @@ module _ {X Y Z : Type 0} (f : X → Y → Z) where
   sum_by_cross h (x ∷ xs) ys =
       sum_by-append h (map (f x) ys) (cross f xs ys) ∙ ap₂ ◌+◌ (sum_by_map h (f x) ys) (sum_by_cross h xs ys) ∙ sym (sum_by-cons (λ z. sum_by (λ y. h (f z y)) ys) x xs)
 
-  pub length-cross : (xs : List X) (ys : List Y) → length (cross f xs ys) ≡ length xs * length ys
+  pub length_cross : (xs : List X) (ys : List Y) → length (cross f xs ys) ≡ length xs * length ys
   unfolding cross
-  length-cross [] ys = sym (zero-mul (length ys))
-  length-cross (x ∷ xs) ys = length-append (map (f x) ys) (cross f xs ys) ∙ omega (arith, length-map ys (f x), length-cross xs ys, suc-mul (length xs) (length ys))
+  length_cross [] ys = sym (zero-mul (length ys))
+  length_cross (x ∷ xs) ys = length-append (map (f x) ys) (cross f xs ys) ∙ omega (arith, length-map ys (f x), length_cross xs ys, suc-mul (length xs) (length ys))
 
   pub all_cross : {P : X → Type 0} {Q : Y → Type 0} (R : Z → Type 0) (xs : List X) (ys : List Y) → AllByRecursion P xs → AllByRecursion Q ys → ((x : X) (y : Y) → P x → Q y → R (f x y)) → AllByRecursion R (cross f xs ys)
   unfolding cross

@@ -17,7 +17,7 @@ use Rattle.formulas.specs.Lines.{Sort, state, dist, Line, constant, both, non, s
 use Rattle.formulas.specs.Right.{Right, AllRight}
 use Rattle.quotient.specs.Quotient.{moves_of, rows, move_rows, width, place, places, new_step, new_term, new_line, new_lines, quotient_lines}
 use Rattle.quotient.specs.Plans.{width_before, all_targets, step_need, alternative_need}
-use Rattle.quotient.proofs.Lists.{length-cross, looked_up, sum_by_map, sum_by_at, sum_by_eq, sum_by_mul}
+use Rattle.quotient.proofs.Lists.{length_cross, looked_up, sum_by_map, sum_by_at, sum_by_eq, sum_by_mul}
 use Rattle.quotient.proofs.Places.{new-length, quotient-length, point-row}
 use Rattle.quotient.proofs.Planning.{no_node}
 use Rattle.quotient.proofs.Dividing.{place_at}
@@ -91,7 +91,7 @@ module _ (A : ℕ → Bool) (R : Meaning) (ls : List Line) where
   terms_given (sum t ks) =
       ap (sum_by term_count) (looked_up (λ mv. sum (t * R.mass) (cross (new_term R ls) ks mv)) [] (rows R))
       ∙ sum_by_map term_count (λ mv. sum (t * R.mass) (cross (new_term R ls) ks mv)) (rows R)
-      ∙ sum_by_eq (rows R) (λ mv. length-cross (new_term R ls) ks mv)
+      ∙ sum_by_eq (rows R) (λ mv. length_cross (new_term R ls) ks mv)
       ∙ sum_by_mul (length ks) length (rows R)
       ∙ ap (λ n. length ks * n) (rows_targets R)
       ∙ mul_comm (length ks) (all_targets R)
@@ -108,7 +108,7 @@ module _ (A : ℕ → Bool) (R : Meaning) (ls : List Line) where
   crossed : (a p m h : ℕ) (ms hs : List ℕ) → length ms ≡ m → length hs ≡ h → length (cross (place R ls) ms (move_rows R p a) ++ places R ls hs p) ≡ m * length (R.moves p a) + h
   crossed a p m h ms hs em eh =
       length-append (cross (place R ls) ms (move_rows R p a)) (places R ls hs p)
-      ∙ ap₂ ◌+◌ (length-cross (place R ls) ms (move_rows R p a) ∙ ap₂ ◌*◌ em (length-range_with_len _ (length (R.moves p a)))) (length-map hs (λ d. place R ls d p) ∙ eh)
+      ∙ ap₂ ◌+◌ (length_cross (place R ls) ms (move_rows R p a) ∙ ap₂ ◌*◌ em (length-range_with_len _ (length (R.moves p a)))) (length-map hs (λ d. place R ls d p) ∙ eh)
 
   step-alternatives : (b : Bool) (a p m h : ℕ) (ms hs : List ℕ) → length ms ≡ m → length hs ≡ h → alternative-count (new_step b R ls a ms hs p) ≡ step_need b m h (length (R.moves p a))
   step-alternatives true a p m h ms hs em eh = crossed a p m h ms hs em eh

@@ -8,7 +8,7 @@ use Rattle.systems.specs.declared.system.Target.{Target}
 use Rattle.systems.specs.Meaning.{Meaning, Move, Limited, point}
 use Rattle.systems.specs.Piles.{over, pair, moves_over, pile, refusal}
 use Rattle.systems.specs.PileLaw.{Composed, Paired, PileLaw}
-use Rattle.systems.specs.Cross.{length-cross, get_or_cross}
+use Rattle.systems.specs.Cross.{length_cross, get_or_cross}
 use Rattle.systems.specs.Piled.{inside_moves, shared_count, apart_count, shared_move, upper_move, lower_move}
 use Rattle.systems.specs.PiledSound.{ruled_pile}
 
@@ -45,7 +45,7 @@ composed A U L = record {
 
 paired : (k : ℕ) (mu ml : Move) (no_target : Target) → Paired k mu ml no_target
 paired k mu ml d = record {
-  count = length-cross (over k) mu ml;
+  count = length_cross (over k) mu ml;
   each = λ i j hi hj.
       get_or_cross (over k) mu ml (i * length ml + j) d d d (digits_lt hi hj)
       ∙ ap₂ (λ (x y : ℕ). over k (get_or mu x d) (get_or ml y d)) (first-digit i j (length ml) hj) (second_digit i j (length ml) hj);

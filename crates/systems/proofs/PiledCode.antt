@@ -12,7 +12,7 @@ use Rattle.systems.specs.declared.system.Target.{Target}
 use Rattle.systems.specs.Meaning.{Meaning, Move, Ruled, Good, Aimed, point}
 use Rattle.systems.specs.Piles.{over, pair, moves_over, pile_moves, pile}
 use Rattle.systems.specs.Fitted.{fitted, agrees, Outside, Split, both, Room}
-use Rattle.systems.specs.Cross.{length-cross}
+use Rattle.systems.specs.Cross.{length_cross}
 use Rattle.systems.specs.Piled.{inside_moves, outside_moves, shared_moves, shared_count, apart_count, shared_move, upper_move, lower_move, cross_nil, nth_pair, good_move}
 use Rattle.systems.specs.PiledSound.{Same, same_numbers, upper_below, lower_below}
 
@@ -55,7 +55,7 @@ room_from n m n' m' None None h h' p q = tt
 
 -- the lengths and the elements of a pair
 pub length-pair : (k : ℕ) (mu ml : Move) → length (pair k mu ml) ≡ length mu * length ml
-length-pair k mu ml = length-cross (over k) mu ml
+length-pair k mu ml = length_cross (over k) mu ml
 
 pub nth_upper : (k : ℕ) (mu : Move) (t : Target) (i : ℕ) → slice_get (pair k mu (t ∷ [])) i ≡ both k (slice_get mu i) (Some t)
 nth_upper k mu t i = nth_pair k mu (t ∷ []) i (omega arith) ∙ rw (div-one i, mod-one i) refl

@@ -17,11 +17,11 @@ pos_right a zero i h = absurd (not-suc-le-zero (subst (λ (m : ℕ). i < m) (mul
 pos_right a (suc n) i h = omega arith
 
 module _ {X Y Z : Type 0} (f : X → Y → Z) where
-  pub length-cross : (xs : List X) (ys : List Y) → length (cross f xs ys) ≡ length xs * length ys
+  pub length_cross : (xs : List X) (ys : List Y) → length (cross f xs ys) ≡ length xs * length ys
   unfolding cross
-  length-cross [] ys = sym (zero-mul (length ys))
-  length-cross (x ∷ xs) ys =
-      length-append (map (f x) ys) (cross f xs ys) ∙ omega (arith, length-map ys (f x), length-cross xs ys, suc-mul (length xs) (length ys))
+  length_cross [] ys = sym (zero-mul (length ys))
+  length_cross (x ∷ xs) ys =
+      length-append (map (f x) ys) (cross f xs ys) ∙ omega (arith, length-map ys (f x), length_cross xs ys, suc-mul (length xs) (length ys))
 
   pub get_or_cross : (xs : List X) (ys : List Y) (i : ℕ) (dx : X) (dy : Y) (dz : Z) → i < length xs * length ys → slice_index_or (cross f xs ys) i dz ≡ f (slice_index_or xs (i / length ys) dx) (slice_index_or ys (i % length ys) dy)
   unfolding cross

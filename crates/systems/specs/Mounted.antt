@@ -157,8 +157,8 @@ module _ (n : ℕ) (rs : List MoveRecord) (ts : List Target) where
     pub all_sized : (i : ℕ) → i < length rs → ((row rs i).count ≤ longest rs (length rs)) × ((row rs i).first + (row rs i).count ≤ length ts)
     all_sized i l = (count_below rs (length rs) i l, (all_fine i l).alone_fits.placed)
 
-    pub all-inside : (i : ℕ) (d : MoveRecord) → i < length rs → ((slice_index_or rs i d).state < n) × ((slice_index_or rs i d).action < 32)
-    all-inside i d l =
+    pub all_inside : (i : ℕ) (d : MoveRecord) → i < length rs → ((slice_index_or rs i d).state < n) × ((slice_index_or rs i d).action < 32)
+    all_inside i d l =
         let P : MoveRecord → Type 0 = λ r. (r.state < n) × (r.action < 32) in
         subst P (get_or_default rs i no_record d l) ((all_fine i l).alone_fits.inside, (all_fine i l).alone_fits.act)
 
@@ -169,7 +169,7 @@ module _ (n : ℕ) (rs : List MoveRecord) (ts : List Target) where
     -- no record is of a state or an action out of range
     none_of : (k a : ℕ) → ((r : MoveRecord) → (r.state < n) × (r.action < 32) → asks k a r ≢ true) → asked k a rs ≡ []
     none_of k a never =
-        no_element (asked k a rs) (λ r p q. never r p q) (asked_all (λ r. (r.state < n) × (r.action < 32)) (λ i l. all-inside i no_record l) k a) (kept_by_passes (asks k a) rs)
+        no_element (asked k a rs) (λ r p q. never r p q) (asked_all (λ r. (r.state < n) × (r.action < 32)) (λ i l. all_inside i no_record l) k a) (kept_by_passes (asks k a) rs)
       where
         no_element : (xs : List MoveRecord) → ((r : MoveRecord) → (r.state < n) × (r.action < 32) → asks k a r ≢ true) → AllByRecursion (λ r. (r.state < n) × (r.action < 32)) xs → AllByRecursion (λ r. asks k a r ≡ true) xs → xs ≡ []
         no_element [] h p q = refl

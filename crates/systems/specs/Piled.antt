@@ -11,7 +11,7 @@ use Rattle.systems.specs.declared.system.Target.{Target}
 use Rattle.systems.specs.Meaning.{Meaning, Move, Ruled, Good, point}
 use Rattle.systems.specs.Piles.{cross, over, pair, moves_over, pile_moves}
 use Rattle.systems.specs.Fitted.{both}
-use Rattle.systems.specs.Cross.{length-cross, get_or_cross}
+use Rattle.systems.specs.Cross.{length_cross, get_or_cross}
 
 pub both_none : (k : ℕ) (o : Option Target) → both k None o ≡ None
 both_none k (Some y) = refl
@@ -26,12 +26,12 @@ nth_pair k xs ys i pos = go (cases_lt i (length xs * length ys))
   where
     go : (i < length xs * length ys) ⊎ (length xs * length ys ≤ i) → slice_get (pair k xs ys) i ≡ both k (slice_get xs (i / length ys)) (slice_get ys (i % length ys))
     go (inl l) =
-        let l' : i < length (pair k xs ys) = omega (arith, length-cross (over k) xs ys) in
+        let l' : i < length (pair k xs ys) = omega (arith, length_cross (over k) xs ys) in
         let q : i / length ys < length xs = div_below i (length ys) (length xs) pos l in
         let r : i % length ys < length ys = mod_below i (length ys) pos in
         slice_get-get_or (pair k xs ys) i no_target l' ∙ ap Some (get_or_cross (over k) xs ys i no_target no_target no_target l) ∙ rw (slice_get-get_or xs (i / length ys) no_target q, slice_get-get_or ys (i % length ys) no_target r) refl
     go (inr g) =
-        let g' : length (pair k xs ys) ≤ i = omega (arith, length-cross (over k) xs ys) in
+        let g' : length (pair k xs ys) ≤ i = omega (arith, length_cross (over k) xs ys) in
         let q : length xs ≤ i / length ys = le-div (length xs) i (length ys) pos g in
         slice_get_past (pair k xs ys) i g' ∙ rw (slice_get_past xs (i / length ys) q) (sym (both_none k (slice_get ys (i % length ys))))
 
@@ -63,7 +63,7 @@ module _ (A : ℕ → Bool) (U L : Meaning) where
     apart_moves e = cond-false _ _ _ e
 
     pub shared_count : A a ≡ true → length (moves_over A U L u v a) ≡ length (U.moves u a) * length (L.moves v a)
-    shared_count e = ap length (shared_moves e) ∙ length-cross (pair L.states) (U.moves u a) (L.moves v a)
+    shared_count e = ap length (shared_moves e) ∙ length_cross (pair L.states) (U.moves u a) (L.moves v a)
 
     pub apart_count : A a ≡ false → length (moves_over A U L u v a) ≡ length (U.moves u a) + length (L.moves v a)
     apart_count e =
@@ -76,7 +76,7 @@ module _ (A : ℕ → Bool) (U L : Meaning) where
         go : (i < length (U.moves u a) * length (L.moves v a)) ⊎ (length (U.moves u a) * length (L.moves v a) ≤ i) → slice_index_or (cross (pair L.states) (U.moves u a) (L.moves v a)) i [] ≡ pair L.states (slice_index_or (U.moves u a) (i / length (L.moves v a)) []) (slice_index_or (L.moves v a) (i % length (L.moves v a)) [])
         go (inl l) = get_or_cross (pair L.states) (U.moves u a) (L.moves v a) i [] [] [] l
         go (inr g) =
-            let g' : length (cross (pair L.states) (U.moves u a) (L.moves v a)) ≤ i = omega (arith, length-cross (pair L.states) (U.moves u a) (L.moves v a)) in
+            let g' : length (cross (pair L.states) (U.moves u a) (L.moves v a)) ≤ i = omega (arith, length_cross (pair L.states) (U.moves u a) (L.moves v a)) in
             let q : length (U.moves u a) ≤ i / length (L.moves v a) = le-div (length (U.moves u a)) i (length (L.moves v a)) pos g in
             get_or_past (cross (pair L.states) (U.moves u a) (L.moves v a)) i [] g' ∙ rw (get_or_past (U.moves u a) (i / length (L.moves v a)) [] q) (sym (nil_cross (over L.states) (slice_index_or (L.moves v a) (i % length (L.moves v a)) [])))
 

@@ -11,7 +11,7 @@ use Rattle.systems.specs.declared.system.Target.{Target}
 use Rattle.systems.specs.Meaning.{Meaning, Move, Ruled, Sound, Between, Good, Aimed, point}
 use Rattle.systems.specs.Piles.{over, pair, moves_over, pile_moves, pile}
 use Rattle.systems.specs.Fitted.{fitted, agrees}
-use Rattle.systems.specs.Cross.{length-cross, all_cross, sum_cross}
+use Rattle.systems.specs.Cross.{length_cross, all_cross, sum_cross}
 use Rattle.systems.specs.Piled.{inside_moves, outside_moves, shared_moves, apart_moves, shared_count, apart_count, nil_cross}
 
 pub sum_le_product : (a b x y : ℕ) → 2 ≤ a → 2 ≤ b → x ≤ a → y ≤ b → x + y ≤ a * b
@@ -30,7 +30,7 @@ good_point S s k h = record {
 module _ (U L : Meaning) where
   pub good_pair : (mu ml : Move) → Good U.states U.mass U.breadth mu → Good L.states L.mass L.breadth ml → Good (U.states * L.states) (U.mass * L.mass) (U.breadth * L.breadth) (pair L.states mu ml)
   good_pair mu ml g h = record {
-    short = subst (λ (n : ℕ). n ≤ U.breadth * L.breadth) (sym (length-cross (over L.states) mu ml)) (mul-le-mul g.short h.short);
+    short = subst (λ (n : ℕ). n ≤ U.breadth * L.breadth) (sym (length_cross (over L.states) mu ml)) (mul-le-mul g.short h.short);
     aimed =
         all_cross (over L.states) (Aimed U.states) (Aimed L.states) (Aimed (U.states * L.states))
         (λ x y p q. record { inside = digits_lt p.inside q.inside; heavy = one-le-mul p.heavy q.heavy })

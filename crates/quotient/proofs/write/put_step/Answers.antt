@@ -6,7 +6,7 @@ use Rattle.formulas.specs.Append.{table}
 use Rattle.quotient.specs.Layings.{extended}
 use Rattle.quotient.specs.Plans.{plan_nodes, place_in}
 use Rattle.quotient.proofs.Laying.{put_is, lay_step, fill-grows}
-use Rattle.quotient.proofs.Dividing.{whole, cut, all-inside, rows-from, step_is}
+use Rattle.quotient.proofs.Dividing.{whole, cut, all_inside, rows-from, step_is}
 use Rattle.quotient.proofs.write.put_step.Goals as goal
 
 pub put_move_parts-requires : goal.put_move_parts-requires
@@ -17,7 +17,7 @@ put_move_parts-requires g c =
     let rows = rows-from (g.S.System.meaning c.args.system.now) x c.requires.planned (g.met.S.System.sound c.args.system.now).ruled c.args.p c.args.action _ c.requires.inside c.first_row-row.ensures in
     record {
       sampling = c.requires.planned.sampling;
-      inside = subst Inside (sym (cut x.alternatives.now c.args.moves)) (all-inside x _ fit _ fit.right.moves_below);
+      inside = subst Inside (sym (cut x.alternatives.now c.args.moves)) (all_inside x _ fit _ fit.right.moves_below);
       point = omega (arith, c.requires.inside, c.requires.planned.few);
       small = omega (arith, rows.1, c.moves-count.ensures);
     }
@@ -30,8 +30,8 @@ put_here_parts-requires g c =
     let rows = rows-from (g.S.System.meaning c.args.system.now) x c.requires.planned (g.met.S.System.sound c.args.system.now).ruled c.args.p c.args.action _ c.requires.inside c.first_row-row.ensures in
     record {
       sampling = c.requires.planned.sampling;
-      inside = subst Inside (sym (cut x.alternatives.now c.args.moves)) (all-inside x _ fit _ fit.right.moves_below);
-      heres = subst Inside (sym (cut x.alternatives.now c.args.heres)) (all-inside x _ fit _ fit.right.here_below);
+      inside = subst Inside (sym (cut x.alternatives.now c.args.moves)) (all_inside x _ fit _ fit.right.moves_below);
+      heres = subst Inside (sym (cut x.alternatives.now c.args.heres)) (all_inside x _ fit _ fit.right.here_below);
       point = omega (arith, c.requires.inside, c.requires.planned.few);
       small = omega (arith, rows.1, c.moves-count.ensures);
     }

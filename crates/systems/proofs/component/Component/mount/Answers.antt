@@ -2,7 +2,7 @@ use Rattle.std.proofs.Common.{◌≡◌, ℕ, true, List, map, length, vec_items
 use lib.ListN.{length-map}
 use Rattle.systems.specs.declared.system.Target.{Target}
 use Rattle.systems.specs.Index.{index_meaning, good_index}
-use Rattle.systems.specs.Mounted.{right_tables, all-inside, longest_low, longest_high}
+use Rattle.systems.specs.Mounted.{right_tables, all_inside, longest_low, longest_high}
 use Rattle.systems.specs.Indexed.{index_good, same_meaning}
 use Rattle.systems.proofs.component.Component.mount.Goals as goal
 
@@ -11,7 +11,7 @@ grouped-requires c =
     let n = c.args.states in
     let rs = c.args.moves.now in
     let ts = c.args.targets.now in
-    all-inside n rs ts (right_tables n rs ts c.in_ok-breadth.ensures.0).records
+    all_inside n rs ts (right_tables n rs ts c.in_ok-breadth.ensures.0).records
 
 pub invariant_of-result : goal.invariant_of-result
 invariant_of-result c =
