@@ -5,6 +5,7 @@ use Rattle.formulas.specs.declared.node.Node.{Node}
 use Rattle.formulas.specs.declared.node.Term.{Term}
 use Rattle.formulas.specs.declared.tables.Standing.{Standing}
 use Rattle.formulas.specs.declared.tables.Tables.{Tables}
+use Rattle.formulas.specs.declared.tables.TablesMut.{TablesMut}
 use Rattle.formulas.specs.Layout.{node_table, term_table, alternative_table, fills}
 use Rattle.formulas.specs.Lines.{Line, lines, Formula}
 use Rattle.formulas.specs.Stands.{formula_in}
@@ -21,6 +22,16 @@ slots ns ts alts = record { nodes = ns; terms = ts; alternatives = alts }
 -- the entries of lent tables
 abbrev pub contents : Tables → Slots
 contents t = slots t.nodes.now t.terms.now t.alternatives.now
+
+abbrev pub held : TablesMut → Slots
+held t = slots t.nodes.now t.terms.now t.alternatives.now
+
+-- t and u are loans of the same three tables
+abbrev pub SameLoans : TablesMut → TablesMut → Type 0
+SameLoans t u =
+    (u.nodes.ghost_name ≡ t.nodes.ghost_name)
+    × (u.terms.ghost_name ≡ t.terms.ghost_name)
+    × (u.alternatives.ghost_name ≡ t.alternatives.ghost_name)
 
 -- a table takes what is needed of it: no more than it has, and no more than any may use
 abbrev pub takes : ℕ → ℕ → Bool

@@ -5,6 +5,7 @@ ghost use Rattle.formulas.specs.Right.{AllRight};
 ghost use Rattle.formulas.specs.Stands.{state_sort, is_state_node, is_dist_node, below_state, below_dist, run_ok, all_dist, term_ok, terms_ok, step_ok, sum_ok, state_ok, dist_ok, node_ok, terms_of, alternatives_of, stands, formula_in};
 
 use crate::node::{DistNode, Fills, Node, Run, StateNode, Term};
+use crate::tables::{Standing, Tables, front};
 
 const LAST_ACTION: u32 = 31;
 
@@ -226,17 +227,16 @@ fn alternative_count(node: Node) -> usize
     }
 }
 
-// Whether the three tables hold a formula with the root `root`, `mass` having been removed.
-pub fn formula_stands(
-    nodes: &[Node],
-    terms: &[Term],
-    alternatives: &[u32],
-    root: u32,
-    mass: u64,
-) -> bool
-    ensures value { result ≡ stands nodes.now terms.now alternatives.now root mass }
-    ensures right { result ≡ true → AllRight nodes.now terms.now alternatives.now mass }
+// Whether the formula that fills its tables is one with the root `root`, `mass` having been removed.
+pub fn formula_stands(tables: Tables, root: u32, mass: u64) -> bool
+    ensures value { result ≡ stands tables.entry.nodes.now tables.entry.terms.now tables.entry.alternatives.now root mass }
+    ensures right { result ≡ true → AllRight tables.entry.nodes.now tables.entry.terms.now tables.entry.alternatives.now mass }
 {
+    let Tables {
+        nodes,
+        terms,
+        alternatives,
+    } = tables;
     let mut term = 0;
     let mut alternative = 0;
     for i in 0..nodes.len() {
@@ -256,36 +256,21 @@ pub fn formula_stands(
     is_state(nodes, root)
 }
 
-fn fills_fit(fills: Fills, nodes: usize, terms: usize, alternatives: usize) -> bool
-    ensures { result ≡ (nat_le fills.nodes nodes && (nat_le fills.terms terms && nat_le fills.alternatives alternatives)) }
+fn fills_fit(fills: Fills, tables: Tables) -> bool
+    ensures { result ≡ (nat_le fills.nodes (length tables.entry.nodes.now) && (nat_le fills.terms (length tables.entry.terms.now) && nat_le fills.alternatives (length tables.entry.alternatives.now))) }
 {
-    fills.nodes as usize <= nodes
-        && fills.terms as usize <= terms
-        && fills.alternatives as usize <= alternatives
+    fills.nodes as usize <= tables.nodes.len()
+        && fills.terms as usize <= tables.terms.len()
+        && fills.alternatives as usize <= tables.alternatives.len()
 }
 
 // Whether the used part of each table is there and together they hold a formula.
-pub fn formula_in(
-    fills: Fills,
-    root: u32,
-    mass: u64,
-    nodes: &[Node],
-    terms: &[Term],
-    alternatives: &[u32],
-) -> bool
-    ensures value { result ≡ formula_in fills root mass nodes.now terms.now alternatives.now }
-    ensures right { result ≡ true → AllRight (take fills.nodes nodes.now) (take fills.terms terms.now) (take fills.alternatives alternatives.now) mass }
+pub fn formula_in(standing: Standing, mass: u64, tables: Tables) -> bool
+    ensures value { result ≡ formula_in standing.fills standing.root mass tables.entry.nodes.now tables.entry.terms.now tables.entry.alternatives.now }
+    ensures right { result ≡ true → AllRight (take standing.fills.nodes tables.entry.nodes.now) (take standing.fills.terms tables.entry.terms.now) (take standing.fills.alternatives tables.entry.alternatives.now) mass }
 {
-    if !fills_fit(fills, nodes.len(), terms.len(), alternatives.len()) {
-        return false;
-    }
-    formula_stands(
-        &nodes[0..fills.nodes as usize],
-        &terms[0..fills.terms as usize],
-        &alternatives[0..fills.alternatives as usize],
-        root,
-        mass,
-    )
+    fills_fit(standing.fills, tables)
+        && formula_stands(front(standing.fills, tables), standing.root, mass)
 }
 
 // The law of truth.

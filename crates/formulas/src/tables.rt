@@ -12,6 +12,14 @@ pub struct Tables<'a> {
     pub alternatives: &'a [u32],
 }
 
+// A formula's tables, lent to be changed.
+#[derive(Drop)]
+pub struct TablesMut<'a> {
+    pub nodes: &'a mut [Node],
+    pub terms: &'a mut [Term],
+    pub alternatives: &'a mut [u32],
+}
+
 // Where a formula stands in its tables: how much of each it uses, and the number of its root.
 #[derive(Clone, Copy)]
 pub struct Standing {

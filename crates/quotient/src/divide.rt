@@ -105,14 +105,7 @@ pub fn divide<S: System>(
     ensures value { result ≡ divided shared (S.meaning system.now) standing.fills standing.root mass (contents tables.entry) (slots nodes.old terms.old alternatives.old) }
     ensures tables { slots nodes.new terms.new alternatives.new ≡ afterwards result (remainder shared (S.meaning system.now) standing.fills standing.root (contents tables.entry)) (slots nodes.old terms.old alternatives.old) }
 {
-    if !formula_in(
-        standing.fills,
-        standing.root,
-        mass,
-        tables.nodes,
-        tables.terms,
-        tables.alternatives,
-    ) {
+    if !formula_in(standing, mass, tables) {
         return Err(Refusal::NoFormula);
     }
     if too_large(system) {

@@ -12,7 +12,7 @@ use crate::settle::settle;
 use formulas::node::{Fills, Node, StateNode, Term};
 use formulas::refusal::Refusal;
 use formulas::stands::{formula_in, layout_stands, tables_stand};
-use formulas::tables::Standing;
+use formulas::tables::{Standing, Tables};
 
 // Drops the nodes that the root does not reach.
 fn cut(
@@ -126,14 +126,12 @@ pub fn simplify_in_place(
     ensures fewer { NoMore standing.fills result }
     ensures settled { SettlesIn (slots nodes.new terms.new alternatives.new) result }
 {
-    if !formula_in(
-        standing.fills,
-        standing.root,
-        mass,
+    let tables = Tables {
         nodes,
         terms,
         alternatives,
-    ) {
+    };
+    if !formula_in(standing, mass, tables) {
         return Err(Refusal::NoFormula);
     }
     if map.len() < standing.fills.nodes as usize {
