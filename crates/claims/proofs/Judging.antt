@@ -16,12 +16,12 @@ use Rattle.formulas.specs.Right.{Right, AllRight}
 use Rattle.formulas.specs.Stands.{state_sort, no_dist, is_state_node, walk, stands}
 use Rattle.formulas.specs.Truths.{truths, at_node}
 use Rattle.claims.specs.declared.claim.Claim.{Claim}
-use Rattle.claims.specs.declared.tables.Tables.{Tables}
-use Rattle.claims.specs.declared.fault.Refusal.{Refusal}
-use Rattle.claims.specs.declared.fault.Refusal.TheVariants.{NoFormula, Heavy, Short}
+use Rattle.formulas.specs.declared.tables.Tables.{Tables}
+use Rattle.formulas.specs.declared.refusal.Refusal.{Refusal}
+use Rattle.formulas.specs.declared.refusal.Refusal.TheVariants.{NoFormula, Heavy, Short}
+use Rattle.formulas.specs.Tables.{over, stands_in, Front, lines_in, contents}
 use Rattle.claims.specs.declared.verdict.Verdict.{Verdict}
-use Rattle.claims.specs.Claims.{stands_in, Front, lines_in}
-use Rattle.claims.specs.Verdicts.{verdict, judged, bytes, truth_bytes, row_bytes, over}
+use Rattle.claims.specs.Verdicts.{verdict, judged, bytes, truth_bytes, row_bytes}
 use Rattle.claims.specs.Boards.{truths_in, most_removed, SitsIn, Sits, Passed}
 
 -- what is right with a removed mass is right with a greater one
@@ -38,9 +38,9 @@ state-inside ns i h =
     ⊎_elim (λ l. l) (λ ge. absurd (both_ways (is_state_node ns i) (ap state_sort (get_or_past ns i no_dist ge)) h)) (cases_lt i (length ns))
 
 -- what the tests of the code tell
-pub passed : (M : Meaning) (c : Claim) (t : Tables) (size len : ℕ) (f : Fills) (root m mass n : ℕ) → f ≡ c.fills → root ≡ c.root → m ≡ c.mass → mass ≡ M.mass → n ≡ M.states → true ≡ stands_in f root m t → AllRight (take f.nodes t.nodes.now) (take f.terms t.terms.now) (take f.alternatives t.alternatives.now) m → false ≡ ltb 1000000000000000 (m * mass) → false ≡ (ltb size (f.nodes * n) || ltb len f.nodes) → TruthLaw → Passed M c t size len
+pub passed : (M : Meaning) (c : Claim) (t : Tables) (size len : ℕ) (f : Fills) (root m mass n : ℕ) → f ≡ c.fills → root ≡ c.root → m ≡ c.mass → mass ≡ M.mass → n ≡ M.states → true ≡ stands_in f root m (contents t) → AllRight (take f.nodes t.nodes.now) (take f.terms t.terms.now) (take f.alternatives t.alternatives.now) m → false ≡ ltb 1000000000000000 (m * mass) → false ≡ (ltb size (f.nodes * n) || ltb len f.nodes) → TruthLaw → Passed M c t size len
 passed M c t size len f root m mass n ef er em ew en held right light room law = record {
-  held = subst₃ (λ f r m. stands_in f r m t ≡ true) ef er em (sym held);
+  held = subst₃ (λ f r m. stands_in f r m (contents t) ≡ true) ef er em (sym held);
   light = subst₂ (λ m w. ltb 1000000000000000 (m * w) ≡ false) em ew (sym light);
   room = subst₂ (λ f n. (ltb size (f.nodes * n) || ltb len f.nodes) ≡ false) ef en (sym room);
   right = subst₂ (λ f m. AllRight (take f.nodes t.nodes.now) (take f.terms t.terms.now) (take f.alternatives t.alternatives.now) m) ef em right;
@@ -88,7 +88,7 @@ module _ (M : Meaning) (c : Claim) (t u : Tables) (size len : ℕ) (p : Passed M
         long = omega (arith, count, ltb-false len c.fills.nodes tests.1);
       }
 
-  used-truths : truths_in M u ≡ truths M (lines_in c.fills t)
+  used-truths : truths_in M u ≡ truths M (lines_in c.fills (contents t))
   used-truths =
       ap (λ ns. truths M (lines ns u.terms.now u.alternatives.now)) front.nodes
       ∙ ap (λ ts. truths M (lines (take c.fills.nodes t.nodes.now) ts u.alternatives.now)) front.terms
@@ -97,7 +97,7 @@ module _ (M : Meaning) (c : Claim) (t u : Tables) (size len : ℕ) (p : Passed M
   pub judged-is : (v : Verdict) (root : ℕ) → root ≡ c.root → v ≡ verdict (at_node (truths_in M u) root 0) → ◌≡◌ {A = Result Verdict Refusal} (Ok v) (judged M c t size len)
   judged-is v root e f =
       ap Ok (f ∙ ap₂ (λ T r. verdict (at_node T r 0)) used-truths e)
-      ∙ sym (cond-false (not (stands_in c.fills c.root c.mass t)) (Err NoFormula) _ (not_from_true _ p.held)
+      ∙ sym (cond-false (not (stands_in c.fills c.root c.mass (contents t))) (Err NoFormula) _ (not_from_true _ p.held)
       ∙ cond-false (ltb 1000000000000000 (c.mass * M.mass)) (Err Heavy) _ p.light
       ∙ cond-false (ltb size (c.fills.nodes * M.states) || ltb len c.fills.nodes) (Err Short) _ p.room)
 

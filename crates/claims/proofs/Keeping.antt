@@ -6,10 +6,10 @@ use Rattle.systems.specs.Meaning.{Meaning}
 use Rattle.systems.specs.PileLaw.{PileLaw}
 use Rattle.systems.specs.Piles.{pile}
 use Rattle.formulas.specs.declared.node.Fills.{Fills}
-use Rattle.formulas.specs.declared.refusal.Refusal.{Refusal as FormulaRefusal}
+use Rattle.formulas.specs.declared.refusal.Refusal.{Refusal}
 use Rattle.formulas.specs.Laws.{HeldLaw, LinesLaw}
 use Rattle.formulas.specs.Stands.{stands}
-use Rattle.formulas.specs.Tables.{Slots, stands_in, formula_at}
+use Rattle.formulas.specs.Tables.{Slots, stands_in, formula_at, contents}
 use Rattle.formulas.specs.Truths.{holds}
 use Rattle.formulas.specs.WellFormed.{WellFormed}
 use Rattle.systems.specs.Stacks.{stack}
@@ -18,11 +18,9 @@ use Rattle.simplification.specs.Laws.{KeepsTruthLaw, WeighedLaw}
 use Rattle.simplification.specs.Simplify.{simplify}
 use Rattle.simplification.specs.Tables.{Done, desk}
 use Rattle.claims.specs.declared.claim.Claim.{Claim}
-use Rattle.claims.specs.declared.fault.Refusal.{Refusal}
-use Rattle.claims.specs.declared.tables.Tables.{Tables}
+use Rattle.formulas.specs.declared.tables.Tables.{Tables}
 use Rattle.claims.specs.declared.verdict.Verdict.{Verdict}
-use Rattle.claims.specs.Books.{contents, stage, formula_on, Stands}
-use Rattle.claims.specs.Claims.{stands_in as stands_in_tables}
+use Rattle.claims.specs.Books.{stage, formula_on, Stands}
 use Rattle.claims.specs.Law.{RemoveKeeps, SimplifyKeeps, Said, JudgeKeeps}
 use Rattle.claims.specs.Removals.{rest, Removed}
 use Rattle.claims.specs.Simplifications.{Simplified}
@@ -30,7 +28,7 @@ use Rattle.claims.specs.Verdicts.{verdict, judged}
 use Rattle.claims.proofs.Fronts.{laid-back, taken_back}
 
 -- what is chosen where a test fails is an error, so an Ok was chosen by a test that holds
-tested : {T : Type 0} (b : Bool) (why : FormulaRefusal) (other : Result T FormulaRefusal) → is_ok (cond (not b) (Err why) other) ≡ true → b ≡ true
+tested : {T : Type 0} (b : Bool) (why : Refusal) (other : Result T Refusal) → is_ok (cond (not b) (Err why) other) ≡ true → b ≡ true
 tested true why other e = refl
 tested false why other e = absurd (true≢false (sym e))
 
@@ -39,7 +37,7 @@ pub past : {T E : Type 0} {v : T} (b : Bool) (why : E) (other : Result T E) → 
 past true why other e = absurd (true≢false (sym (ap is_ok e)))
 past false why other e = e
 
-pub tested-desk : (b : Bool) (why : FormulaRefusal) (d : _) (other : Done) → is_ok (cond (not b) (record { answer = Err why; left = d }) other).answer ≡ true → b ≡ true
+pub tested-desk : (b : Bool) (why : Refusal) (d : _) (other : Done) → is_ok (cond (not b) (record { answer = Err why; left = d }) other).answer ≡ true → b ≡ true
 tested-desk true why d other e = refl
 tested-desk false why d other e = absurd (true≢false (sym e))
 
@@ -99,7 +97,7 @@ unfolding value
 judged-holds S c t size len v e =
     ap (value v)
     (sym (past (ltb size (c.fills.nodes * S.states) || ltb len c.fills.nodes) _ _
-    (past (ltb 1000000000000000 (c.mass * S.mass)) _ _ (past (not (stands_in_tables c.fills c.root c.mass t)) _ _ e))))
+    (past (ltb 1000000000000000 (c.mass * S.mass)) _ _ (past (not (stands_in c.fills c.root c.mass (contents t))) _ _ e))))
 
 pub judge_keeps : JudgeKeeps
 judge_keeps S c t size len sound k right = (go (judged S c t size len) refl, right)

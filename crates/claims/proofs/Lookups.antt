@@ -1,7 +1,7 @@
 -- Looking up the byte of a node in a state.
 use Rattle.std.proofs.Common.{◌≡◌, ℕ, ◌<◌, ◌≤◌, List, length, sym, subst, arith}
 use Rattle.systems.specs.Meaning.{Meaning, Sound}
-use Rattle.claims.specs.declared.tables.Tables.{Tables}
+use Rattle.formulas.specs.declared.tables.Tables.{Tables}
 use Rattle.claims.specs.Sums.{RowAt}
 use Rattle.claims.specs.Boards.{Board}
 use Rattle.claims.proofs.Soundness.{few_states}

@@ -6,7 +6,8 @@ use Rattle.std.proofs.lemmas.List.FromFn.{length-map-range_with_len, get_or-map-
 use Rattle.std.proofs.lemmas.Bool.{cases_lt}
 use Rattle.systems.specs.Meaning.{Meaning}
 use Rattle.formulas.specs.Truths.{Truth, at_node}
-use Rattle.claims.specs.Verdicts.{byte, node_bytes, bytes, over}
+use Rattle.formulas.specs.Tables.{over}
+use Rattle.claims.specs.Verdicts.{byte, node_bytes, bytes}
 use Rattle.claims.specs.Rows.{Cleared}
 use Rattle.claims.specs.Boards.{Agrees, pasted}
 

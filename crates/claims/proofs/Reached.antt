@@ -9,7 +9,7 @@ use Rattle.formulas.specs.declared.node.Node.{Node}
 use Rattle.formulas.specs.declared.node.Run.{Run}
 use Rattle.formulas.specs.Lines.{entries}
 use Rattle.formulas.specs.Truths.{Truth, any, of_node}
-use Rattle.claims.specs.declared.tables.Tables.{Tables}
+use Rattle.formulas.specs.declared.tables.Tables.{Tables}
 use Rattle.claims.specs.Verdicts.{byte}
 use Rattle.claims.specs.Rows.{lit_row, Mark, marked, parts, no_node, Spread, Reached, settled, row_byte, Filling, Cleared, Clear}
 use Rattle.claims.specs.Boards.{truths_in, Sits, Agrees}

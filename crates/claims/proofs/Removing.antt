@@ -4,7 +4,7 @@ use Rattle.std.proofs.lemmas.Bool.{and_parts, leb-true, ltb-false}
 use Rattle.systems.specs.declared.actions.ActionSet.{ActionSet}
 use Rattle.systems.specs.Meaning.{Meaning}
 use Rattle.formulas.specs.declared.node.Fills.{Fills}
-use Rattle.formulas.specs.declared.refusal.Refusal.{Refusal as FormulaRefusal}
+use Rattle.formulas.specs.declared.refusal.Refusal.{Refusal}
 use Rattle.formulas.specs.declared.refusal.Refusal.TheVariants.{NoFormula, Large, Heavy, Short}
 use Rattle.formulas.specs.declared.tables.Standing.{Standing}
 use Rattle.formulas.specs.Layout.{fills as fills_of}
@@ -14,7 +14,7 @@ use Rattle.claims.specs.declared.claim.Claim.{Claim}
 use Rattle.claims.specs.Removals.{rest, removal, Removed}
 use Rattle.claims.proofs.Keeping.{past}
 
-failed : {T : Type 0} {v : T} (b : Bool) (why : FormulaRefusal) (other : Result T FormulaRefusal) → cond b (Err why) other ≡ Ok v → b ≡ false
+failed : {T : Type 0} {v : T} (b : Bool) (why : Refusal) (other : Result T Refusal) → cond b (Err why) other ≡ Ok v → b ≡ false
 failed true why other e = absurd (true≢false (sym (ap is_ok e)))
 failed false why other e = refl
 
@@ -39,7 +39,7 @@ module _ (R : Meaning) (c : Claim) (s second : Slots) (x : Standing) (e : remova
   pub made : removal R c s second ≡ Ok (standing (rest R c s))
   made = e ∙ sym (past (ltb 1000000000000000 (c.mass * R.mass)) Heavy _ weighed) ∙ ap (λ b. cond b (Ok (standing (rest R c s))) (Err Short)) roomy
 
-  standing_of : Result Standing FormulaRefusal → Standing
+  standing_of : Result Standing Refusal → Standing
   standing_of (Ok y) = y
   standing_of (Err why) = x
 

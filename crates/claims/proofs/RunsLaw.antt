@@ -9,7 +9,7 @@ use Rattle.systems.specs.Meaning.{Meaning, Move, Shaped, Ruled}
 use Rattle.systems.specs.PileLaw.{PileLaw}
 use Rattle.formulas.specs.declared.node.Fills.{Fills}
 use Rattle.formulas.specs.Laws.{HeldLaw, LinesLaw}
-use Rattle.formulas.specs.Tables.{stands_in}
+use Rattle.formulas.specs.Tables.{stands_in, contents}
 use Rattle.formulas.specs.Truths.{holds}
 use Rattle.formulas.specs.WellFormed.{WellFormed}
 use Rattle.systems.specs.Stacks.{stack}
@@ -18,10 +18,10 @@ use Rattle.simplification.specs.Laws.{KeepsTruthLaw, WeighedLaw, SettlesLaw, Set
 use Rattle.simplification.specs.Simplify.{simplify as simpler}
 use Rattle.simplification.specs.Tables.{Desk, desk}
 use Rattle.claims.specs.declared.claim.Claim.{Claim}
-use Rattle.claims.specs.declared.fault.Refusal.{Refusal}
-use Rattle.claims.specs.declared.tables.Tables.{Tables}
+use Rattle.formulas.specs.declared.refusal.Refusal.{Refusal}
+use Rattle.formulas.specs.declared.tables.Tables.{Tables}
 use Rattle.claims.specs.declared.verdict.Verdict.{Verdict}
-use Rattle.claims.specs.Books.{Entry, Book, fed, contents, Stage, stage, formula_on, Stands}
+use Rattle.claims.specs.Books.{Entry, Book, fed, Stage, stage, formula_on, Stands}
 use Rattle.claims.specs.Law.{Alike, AllAlike, Reordered, LeftSettled, After, Agreement, LawOfRuns}
 use Rattle.claims.specs.Runs.{Step, remove, simplify, judge, Run, begin, call, New}
 use Rattle.claims.specs.Simplifications.{Simplifies}

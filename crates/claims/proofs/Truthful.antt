@@ -15,7 +15,7 @@ use Rattle.formulas.specs.declared.node.Term.{Term}
 use Rattle.formulas.specs.Lines.{line, entries}
 use Rattle.formulas.specs.Right.{Right, RightSum}
 use Rattle.formulas.specs.Truths.{weigh, total, holds_at, holds_of, at_node, of_node}
-use Rattle.claims.specs.declared.tables.Tables.{Tables}
+use Rattle.formulas.specs.declared.tables.Tables.{Tables}
 use Rattle.claims.specs.Verdicts.{byte}
 use Rattle.claims.specs.Sums.{lit, RowAt, ReadySum}
 use Rattle.claims.specs.Rows.{lit_row, parts, no_node, Parted, Ready, row_byte}

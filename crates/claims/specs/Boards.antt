@@ -8,10 +8,10 @@ use Rattle.formulas.specs.declared.node.Term.{Term}
 use Rattle.formulas.specs.Lines.{line, lines, entries}
 use Rattle.formulas.specs.Laws.{TruthLaw}
 use Rattle.formulas.specs.Right.{AllRight}
+use Rattle.formulas.specs.Tables.{contents, stands_in}
 use Rattle.formulas.specs.Truths.{Truth, truth, truths, never, at_node}
 use Rattle.claims.specs.declared.claim.Claim.{Claim}
-use Rattle.claims.specs.declared.tables.Tables.{Tables}
-use Rattle.claims.specs.Claims.{stands_in}
+use Rattle.formulas.specs.declared.tables.Tables.{Tables}
 use Rattle.claims.specs.Verdicts.{byte}
 
 -- the truths of the formula that the tables hold
@@ -53,7 +53,7 @@ pasted p new old = take p old ++ (new ++ drop (p + length new) old)
 
 -- the claim passes the tests of judge, with a truth table and a row of these lengths
 pub record Passed (M : Meaning) (c : Claim) (t : Tables) (size len : ℕ) : Type 0 where
-  pub held : stands_in c.fills c.root c.mass t ≡ true
+  pub held : stands_in c.fills c.root c.mass (contents t) ≡ true
   pub light : ltb 1000000000000000 (c.mass * M.mass) ≡ false
   pub room : (nat_lt size (c.fills.nodes * M.states) || nat_lt len c.fills.nodes) ≡ false
   pub right : AllRight (take c.fills.nodes t.nodes.now) (take c.fills.terms t.terms.now) (take c.fills.alternatives t.alternatives.now) c.mass

@@ -3,11 +3,10 @@ use Rattle.std.specs.Prelude.{◌≡◌, Bool, true, false, List, [], ◌∷◌,
 use Rattle.systems.specs.Actions.{has}
 use Rattle.systems.specs.Meaning.{Meaning, Ruled}
 use Rattle.formulas.specs.Lines.{Formula}
-use Rattle.formulas.specs.Tables.{Slots, slots, formula_at}
+use Rattle.formulas.specs.Tables.{Slots, formula_at}
 use Rattle.formulas.specs.Truths.{holds}
 use Rattle.systems.specs.Stacks.{stack}
 use Rattle.claims.specs.declared.claim.Claim.{Claim}
-use Rattle.claims.specs.declared.tables.Tables.{Tables}
 
 -- a call on a claim, with the system that it is handed
 pub data Call : Type 0 where
@@ -40,10 +39,6 @@ noted k (judging S) refused = k
 
 abbrev pub fed : Book → Entry → Book
 fed k e = noted k e.call e.refused
-
--- the entries of lent tables
-abbrev pub contents : Tables → Slots
-contents t = slots t.nodes.now t.terms.now t.alternatives.now
 
 -- a claim with what its tables hold
 pub record Stage : Type 0 where

@@ -6,16 +6,16 @@ use Rattle.systems.specs.Actions.{has}
 use Rattle.systems.specs.Meaning.{Meaning, Ruled, Sound}
 use Rattle.systems.specs.PileLaw.{PileLaw}
 use Rattle.formulas.specs.declared.node.Fills.{Fills}
-use Rattle.formulas.specs.Tables.{Slots}
+use Rattle.formulas.specs.Tables.{Slots, contents}
 use Rattle.formulas.specs.Truths.{holds}
 use Rattle.systems.specs.Stacks.{stack}
 use Rattle.simplification.specs.Laws.{Settles}
 use Rattle.simplification.specs.Tables.{Desk, desk}
 use Rattle.claims.specs.declared.claim.Claim.{Claim}
-use Rattle.claims.specs.declared.fault.Refusal.{Refusal}
-use Rattle.claims.specs.declared.tables.Tables.{Tables}
+use Rattle.formulas.specs.declared.refusal.Refusal.{Refusal}
+use Rattle.formulas.specs.declared.tables.Tables.{Tables}
 use Rattle.claims.specs.declared.verdict.Verdict.{Verdict}
-use Rattle.claims.specs.Books.{removing, simplifying, judging, entry, Book, fed, contents, Stage, stage, formula_on, stacked, Stands}
+use Rattle.claims.specs.Books.{removing, simplifying, judging, entry, Book, fed, Stage, stage, formula_on, stacked, Stands}
 use Rattle.claims.specs.Removals.{Answer, Removes}
 use Rattle.claims.specs.Runs.{onward, Run, New}
 use Rattle.claims.specs.Simplifications.{Simplifies}

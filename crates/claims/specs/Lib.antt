@@ -1,4 +1,3 @@
-pub mod Refusals
 pub mod Claims
 pub mod Verdicts
 pub mod Spots

@@ -2,22 +2,20 @@
 use Rattle.std.specs.Prelude.{◌≡◌, ◌*◌, Ok, Err, Result}
 use Rattle.systems.specs.Meaning.{Meaning}
 use Rattle.formulas.specs.declared.node.Fills.{Fills}
-use Rattle.formulas.specs.declared.refusal.Refusal.{Refusal as FormulaRefusal}
+use Rattle.formulas.specs.declared.refusal.Refusal.{Refusal}
 use Rattle.formulas.specs.declared.tables.Standing.{Standing}
 use Rattle.formulas.specs.Layout.{fills as fills_of}
 use Rattle.formulas.specs.Lines.{Formula}
 use Rattle.formulas.specs.Tables.{Slots, laid, standing}
 use Rattle.quotient.specs.Divisions.{remainder, divided}
 use Rattle.claims.specs.declared.claim.Claim.{Claim}
-use Rattle.claims.specs.declared.fault.Refusal.{Refusal}
-use Rattle.claims.specs.Refusals.{of_formula}
 
 -- what the claim's formula becomes without R: its quotient by R
 abbrev pub rest : Meaning → Claim → Slots → Formula
 rest R c s = remainder c.shared R c.fills c.root s
 
 -- where it stands in the second tables, or why R is not removed
-abbrev pub removal : Meaning → Claim → Slots → Slots → Result Standing FormulaRefusal
+abbrev pub removal : Meaning → Claim → Slots → Slots → Result Standing Refusal
 removal R c s second = divided c.shared R c.fills c.root c.mass s second
 
 -- the new claim and its fills, or the claim back and the reason
@@ -36,7 +34,7 @@ pub record Removed (R : Meaning) (c : Claim) (s second : Slots) (new : Claim) (f
 
 -- R is not removed: nothing has changed
 pub record Kept (R : Meaning) (c : Claim) (s second : Slots) (back : Claim) (why : Refusal) (after : Slots) : Type 0 where
-  pub refused : removal R c s second ≡ Err (of_formula why)
+  pub refused : removal R c s second ≡ Err why
   pub claim : back ≡ c
   pub tables : after ≡ second
 

@@ -4,13 +4,13 @@ use Rattle.systems.specs.declared.actions.ActionSet.{ActionSet}
 use Rattle.systems.specs.Meaning.{Meaning, Sound}
 use Rattle.formulas.specs.declared.draft.Draft.{Draft}
 use Rattle.formulas.specs.declared.node.Fills.{Fills}
-use Rattle.formulas.specs.Tables.{Slots, stands_in}
+use Rattle.formulas.specs.Tables.{Slots, stands_in, contents}
 use Rattle.simplification.specs.Tables.{desk}
 use Rattle.claims.specs.declared.claim.Claim.{Claim}
-use Rattle.claims.specs.declared.fault.Refusal.{Refusal}
-use Rattle.claims.specs.declared.tables.Tables.{Tables}
+use Rattle.formulas.specs.declared.refusal.Refusal.{Refusal}
+use Rattle.formulas.specs.declared.tables.Tables.{Tables}
 use Rattle.claims.specs.declared.verdict.Verdict.{Verdict}
-use Rattle.claims.specs.Books.{removing, simplifying, judging, Entry, entry, Book, new_book, fed, contents, Stage, stage, formula_on}
+use Rattle.claims.specs.Books.{removing, simplifying, judging, Entry, entry, Book, new_book, fed, Stage, stage, formula_on}
 use Rattle.claims.specs.Claims.{Opened}
 use Rattle.claims.specs.Removals.{Answer, Removes}
 use Rattle.claims.specs.Simplifications.{Simplifies}

@@ -7,8 +7,7 @@ use Rattle.formulas.specs.Tables.{standing, formula_at}
 use Rattle.simplification.specs.Simplify.{simplify}
 use Rattle.simplification.specs.Tables.{Desk, Done, done, taken_up, simplified}
 use Rattle.claims.specs.declared.claim.Claim.{Claim}
-use Rattle.claims.specs.declared.fault.Refusal.{Refusal}
-use Rattle.claims.specs.Refusals.{of_formula}
+use Rattle.formulas.specs.declared.refusal.Refusal.{Refusal}
 
 -- the claim's formula, simplified
 abbrev pub simpler : Claim → Desk → Formula
@@ -30,7 +29,7 @@ pub record Simplified (c : Claim) (d : Desk) (f : Fills) (new : Claim) (after : 
 
 -- nothing has changed
 pub record Unchanged (c : Claim) (d : Desk) (why : Refusal) (new : Claim) (after : Desk) : Type 0 where
-  pub refused : outcome c d ≡ done (Err (of_formula why)) d
+  pub refused : outcome c d ≡ done (Err why) d
   pub claim : new ≡ c
   pub tables : after ≡ d
 

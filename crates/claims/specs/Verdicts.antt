@@ -1,15 +1,16 @@
 -- What judge answers, and what it leaves in its two tables.
-use Rattle.std.specs.Prelude.{ℕ, ◌*◌, Bool, true, false, cond, not, ◌||◌, List, ◌++◌, map, length, drop, replicate, Ok, Err, Result, nat_lt}
+use Rattle.std.specs.Prelude.{ℕ, ◌*◌, Bool, true, false, cond, not, ◌||◌, List, map, replicate, Ok, Err, Result, nat_lt}
 use Rattle.std.specs.List.{range_with_len, flat_map}
 use Rattle.systems.specs.Meaning.{Meaning}
+use Rattle.formulas.specs.Tables.{contents, over, stands_in, lines_in}
 use Rattle.formulas.specs.Truths.{Truth, truths, at_node, holds}
 use Rattle.claims.specs.declared.claim.Claim.{Claim}
-use Rattle.claims.specs.declared.tables.Tables.{Tables}
-use Rattle.claims.specs.declared.fault.Refusal.{Refusal}
-use Rattle.claims.specs.declared.fault.Refusal.TheVariants.{NoFormula, Heavy, Short}
+use Rattle.formulas.specs.declared.tables.Tables.{Tables}
+use Rattle.formulas.specs.declared.refusal.Refusal.{Refusal}
+use Rattle.formulas.specs.declared.refusal.Refusal.TheVariants.{NoFormula, Heavy, Short}
 use Rattle.claims.specs.declared.verdict.Verdict.{Verdict}
 use Rattle.claims.specs.declared.verdict.Verdict.TheVariants.{Yes, No}
-use Rattle.claims.specs.Claims.{stands_in, lines_in, formula}
+use Rattle.claims.specs.Claims.{formula}
 
 -- the verdict that a truth is
 abbrev pub verdict : Bool → Verdict
@@ -19,7 +20,7 @@ verdict false = No
 -- the answer of judge on a system that means M, with a truth table and a row of these lengths
 abbrev pub judged : Meaning → Claim → Tables → ℕ → ℕ → Result Verdict Refusal
 judged M c t size len =
-    cond (not (stands_in c.fills c.root c.mass t)) (Err NoFormula)
+    cond (not (stands_in c.fills c.root c.mass (contents t))) (Err NoFormula)
     (cond (nat_lt 1000000000000000 (c.mass * M.mass)) (Err Heavy)
     (cond (nat_lt size (c.fills.nodes * M.states) || nat_lt len c.fills.nodes) (Err Short)
     (Ok (verdict (holds M (formula c t))))))
@@ -37,14 +38,10 @@ bytes T n count = flat_map (node_bytes T n) (range_with_len 0 count)
 
 -- what judge writes into the truth table, and into the row
 abbrev pub truth_bytes : Meaning → Claim → Tables → List ℕ
-truth_bytes M c t = bytes (truths M (lines_in c.fills t)) M.states c.fills.nodes
+truth_bytes M c t = bytes (truths M (lines_in c.fills (contents t))) M.states c.fills.nodes
 
 abbrev pub row_bytes : Claim → List ℕ
 row_bytes c = replicate c.fills.nodes 0
-
--- a table that begins with these bytes, and goes on as it was
-abbrev pub over : List ℕ → List ℕ → List ℕ
-over front old = front ++ drop (length front) old
 
 -- a table after judge: written over if there is a verdict, else as it was
 abbrev pub after : Result Verdict Refusal → List ℕ → List ℕ → List ℕ

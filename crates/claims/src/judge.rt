@@ -4,11 +4,12 @@ ghost use Rattle.systems.specs.Meaning.{point};
 ghost use Rattle.formulas.specs.Lines.{line, state_line, entries};
 ghost use Rattle.formulas.specs.Right.{Right, RightState};
 ghost use Rattle.formulas.specs.Truths.{any, holds_at, at_node, of_node};
-ghost use Rattle.claims.specs.Verdicts.{verdict, judged, byte, node_bytes, bytes, truth_bytes, row_bytes, over, after};
+ghost use Rattle.formulas.specs.Tables.{contents, over};
+ghost use Rattle.claims.specs.Verdicts.{verdict, judged, byte, node_bytes, bytes, truth_bytes, row_bytes, after};
 ghost use Rattle.claims.specs.Sums.{lit, RowAt};
 ghost use Rattle.claims.specs.Rows.{Clear};
 ghost use Rattle.claims.specs.Boards.{truths_in, most_removed, Sits, Board, Before, pasted, Passed};
-ghost use Rattle.claims.specs.Books.{judging, entry, Book, fed, contents, stage, Stands};
+ghost use Rattle.claims.specs.Books.{judging, entry, Book, fed, stage, Stands};
 ghost use Rattle.claims.specs.Law.{Said};
 
 use crate::claim::Claim;
@@ -17,10 +18,11 @@ use crate::law::books_stand;
 use crate::row::{Span, clear, some_holds};
 use crate::spot::Spot;
 use crate::sum::is_lit;
-use crate::tables::{Tables, front};
+use crate::tables::Tables;
 use crate::verdict::Verdict;
 use formulas::node::{Node, Run, StateNode};
 use formulas::stands::{formula_in, truth_stands};
+use formulas::tables::{Standing, front};
 use systems::system::System;
 
 // The greatest product of masses.
@@ -246,14 +248,11 @@ fn answer<S: System>(
 {
     let fills = claim.fills();
     let removed = claim.mass();
-    if !formula_in(
+    let standing = Standing {
         fills,
-        claim.root(),
-        removed,
-        tables.nodes,
-        tables.terms,
-        tables.alternatives,
-    ) {
+        root: claim.root(),
+    };
+    if !formula_in(standing, removed, tables) {
         return Err(Refusal::NoFormula);
     }
     if too_heavy(removed, system.mass()) {

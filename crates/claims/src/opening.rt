@@ -1,7 +1,8 @@
 // Turning a draft into a claim.
 ghost use Rattle.std.specs.Prelude.{◌≡◌, is_ok, Ok, Err};
-ghost use Rattle.claims.specs.declared.fault.Refusal.TheVariants.{NoFormula};
-ghost use Rattle.claims.specs.Claims.{stands_in, Opened};
+ghost use Rattle.formulas.specs.declared.refusal.Refusal.TheVariants.{NoFormula};
+ghost use Rattle.formulas.specs.Tables.{stands_in, contents};
+ghost use Rattle.claims.specs.Claims.{Opened};
 ghost use Rattle.claims.specs.Law.{LawOfRuns};
 
 use crate::claim::Claim;
@@ -10,32 +11,28 @@ use crate::law::runs_stand;
 use crate::tables::Tables;
 use formulas::draft::Draft;
 use formulas::stands::formula_in;
+use formulas::tables::Standing;
 use systems::actions::ActionSet;
 
 // The claim of a draft, if the tables hold its formula. A refused draft is given back.
 fn claim_of(draft: Draft, tables: Tables, shared: ActionSet) -> Result<Claim, (Draft, Refusal)>
-    ensures accepted { is_ok result ≡ stands_in draft.fills draft.root 1 tables.entry }
+    ensures accepted { is_ok result ≡ stands_in draft.fills draft.root 1 (contents tables.entry) }
     ensures outcome { elim result [ Ok c ↦ Opened draft shared c | Err e ↦ e ≡ (draft, NoFormula) ] }
 {
-    let fills = draft.fills();
-    let root = draft.root();
+    let standing = Standing {
+        fills: draft.fills(),
+        root: draft.root(),
+    };
     let removed = 1;
-    if !formula_in(
-        fills,
-        root,
-        removed,
-        tables.nodes,
-        tables.terms,
-        tables.alternatives,
-    ) {
+    if !formula_in(standing, removed, tables) {
         return Err((draft, Refusal::NoFormula));
     }
-    Ok(Claim::new(fills, root, removed, shared))
+    Ok(Claim::new(standing.fills, standing.root, removed, shared))
 }
 
 // Opens a draft as a new claim, whose runs of calls keep to the law. A refused draft is given back.
 pub fn open(draft: Draft, tables: Tables, shared: ActionSet) -> Result<Claim, (Draft, Refusal)>
-    ensures accepted { is_ok result ≡ stands_in draft.fills draft.root 1 tables.entry }
+    ensures accepted { is_ok result ≡ stands_in draft.fills draft.root 1 (contents tables.entry) }
     ensures outcome { elim result [ Ok c ↦ Opened draft shared c | Err e ↦ e ≡ (draft, NoFormula) ] }
     ensures law { LawOfRuns }
 {

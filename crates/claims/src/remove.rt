@@ -1,7 +1,7 @@
 // Removing a system from a claim: what the rest still owes, written to second tables.
 ghost use Rattle.std.specs.Prelude.{is_err};
-ghost use Rattle.formulas.specs.Tables.{slots};
-ghost use Rattle.claims.specs.Books.{removing, entry, Book, fed, contents, stage, Stands};
+ghost use Rattle.formulas.specs.Tables.{slots, contents};
+ghost use Rattle.claims.specs.Books.{removing, entry, Book, fed, stage, Stands};
 ghost use Rattle.claims.specs.Removals.{Removes};
 ghost use Rattle.claims.specs.Runs.{onward};
 
@@ -10,7 +10,7 @@ use crate::fault::Refusal;
 use crate::law::books_stand;
 use crate::tables::Tables;
 use formulas::node::{Fills, Node, Term};
-use formulas::tables::{Standing, Tables as FormulaTables};
+use formulas::tables::Standing;
 use quotient::divide::divide;
 use systems::system::System;
 
@@ -29,18 +29,13 @@ fn answer<S: System>(
         fills: claim.fills(),
         root: claim.root(),
     };
-    let lent = FormulaTables {
-        nodes: tables.nodes,
-        terms: tables.terms,
-        alternatives: tables.alternatives,
-    };
     let mass = claim.mass();
     let shared = claim.shared();
     match divide(
         standing,
         mass,
         shared,
-        lent,
+        tables,
         system,
         nodes,
         terms,
@@ -53,7 +48,7 @@ fn answer<S: System>(
                 left.fills,
             ))
         }
-        Err(why) => Err((claim, Refusal::of(why))),
+        Err(why) => Err((claim, why)),
     }
 }
 

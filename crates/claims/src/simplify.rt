@@ -34,7 +34,7 @@ fn answer(
             claim.take_up(new.fills, new.root);
             Ok(new.fills)
         }
-        Err(why) => Err(Refusal::of(why)),
+        Err(why) => Err(why),
     }
 }
 

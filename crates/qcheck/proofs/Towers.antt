@@ -14,7 +14,7 @@ use Rattle.systems.specs.Meaning.{Meaning}
 use Rattle.systems.specs.Piles.{pile, refusal}
 use Rattle.systems.specs.Stacks.{stack}
 use Rattle.claims.specs.declared.claim.Claim.{Claim}
-use Rattle.claims.specs.declared.tables.Tables.{Tables}
+use Rattle.formulas.specs.declared.tables.Tables.{Tables}
 use Rattle.qcheck.specs.declared.stack.Answer.{Answer}
 use Rattle.qcheck.specs.Answers.{refused, answer_on, either_fault, pile_fault, unless, answer_over, answer_to, meanings, Told, tower, ToldOver}
 

@@ -11,12 +11,12 @@ use Rattle.systems.specs.Meaning.{Meaning}
 use Rattle.systems.specs.Piles.{pile, refusal}
 use Rattle.systems.specs.Stacks.{stack}
 use Rattle.formulas.specs.Truths.{holds}
+use Rattle.formulas.specs.Refusals.{number}
 use Rattle.claims.specs.declared.claim.Claim.{Claim}
-use Rattle.claims.specs.declared.fault.Refusal.{Refusal}
-use Rattle.claims.specs.declared.tables.Tables.{Tables}
+use Rattle.formulas.specs.declared.refusal.Refusal.{Refusal}
+use Rattle.formulas.specs.declared.tables.Tables.{Tables}
 use Rattle.claims.specs.declared.verdict.Verdict.{Verdict}
 use Rattle.claims.specs.Claims.{formula}
-use Rattle.claims.specs.Refusals.{number}
 use Rattle.claims.specs.Verdicts.{verdict, judged}
 use Rattle.qcheck.specs.declared.stack.Answer.{Answer}
 use Rattle.qcheck.specs.declared.stack.Answer.TheVariants.{Said, Refused}

@@ -3,7 +3,7 @@ use Rattle.std.specs.Prelude.{is_some, is_err, vec_items, Result}
 use Rattle.systems.specs.Meaning.{Meaning}
 use Rattle.formulas.specs.declared.node.Fills.{Fills}
 use Rattle.formulas.specs.Tables.{slots}
-use Rattle.claims.specs.declared.fault.Refusal.{Refusal}
+use Rattle.formulas.specs.declared.refusal.Refusal.{Refusal}
 use Rattle.claims.specs.Books.{removing, simplifying, entry, Stage, stage}
 use Rattle.claims.specs.Runs.{Step}
 use Rattle.qcheck.specs.declared.case.Case.{Case}

@@ -1,7 +1,6 @@
 // A claim with the tables that hold its formula.
 ghost use Rattle.std.specs.Prelude.{◌≡◌, IfOk};
-ghost use Rattle.formulas.specs.Tables.{slots};
-ghost use Rattle.claims.specs.Books.{contents};
+ghost use Rattle.formulas.specs.Tables.{slots, contents};
 ghost use Rattle.qcheck.specs.Cases.{Simplification, Removal};
 
 use claims::claim::Claim;

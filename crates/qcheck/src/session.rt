@@ -1,7 +1,8 @@
 // A job as it runs: the systems by name, and the claim with its tables.
 ghost use Rattle.std.specs.Prelude.{◌≡◌, is_ok, Ok, Err};
-ghost use Rattle.claims.specs.declared.fault.Refusal.TheVariants.{NoFormula};
-ghost use Rattle.claims.specs.Claims.{stands_in, Opened};
+ghost use Rattle.formulas.specs.declared.refusal.Refusal.TheVariants.{NoFormula};
+ghost use Rattle.formulas.specs.Tables.{stands_in, contents};
+ghost use Rattle.claims.specs.Claims.{Opened};
 
 use crate::case::{Case, MOST_ENTRIES, Store, remove_from};
 use crate::refused::{by_mount, by_number, by_read, print_refusal};
@@ -355,7 +356,7 @@ impl Session {
 
 // Opens a draft; a refused one is let go.
 fn open_on(draft: Draft, tables: Tables, shared: ActionSet) -> Result<Claim, Refusal>
-    ensures accepted { is_ok result ≡ stands_in draft.fills draft.root 1 tables.entry }
+    ensures accepted { is_ok result ≡ stands_in draft.fills draft.root 1 (contents tables.entry) }
     ensures outcome { elim result [ Ok c ↦ Opened draft shared c | Err e ↦ e ≡ NoFormula ] }
 {
     match open(draft, tables, shared) {

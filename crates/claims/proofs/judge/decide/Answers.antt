@@ -1,6 +1,6 @@
 use Rattle.std.proofs.Common.{◌∙◌, subst}
 use Rattle.formulas.specs.declared.node.Fills.{Fills}
-use Rattle.claims.specs.Claims.{Front}
+use Rattle.formulas.specs.Tables.{Front}
 use Rattle.claims.proofs.Soundness.{some-mass}
 use Rattle.claims.proofs.Judging.{ready_to_evaluate, judged-is, truth-is, row_is}
 use Rattle.claims.proofs.judge.decide.Goals as goal

@@ -1,5 +1,6 @@
 use Rattle.std.proofs.Common.{◌≡◌, length, get_or, refl, ap, ◌∙◌, arith}
-use Rattle.claims.specs.Verdicts.{bytes, over}
+use Rattle.formulas.specs.Tables.{over}
+use Rattle.claims.specs.Verdicts.{bytes}
 use Rattle.claims.specs.Boards.{truths_in}
 use Rattle.claims.proofs.Truthful.{row_at}
 use Rattle.claims.proofs.Pastes.{table_more, over-agrees}

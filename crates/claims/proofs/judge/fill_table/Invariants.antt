@@ -1,5 +1,6 @@
 use Rattle.std.proofs.Common.{◌≡◌}
-use Rattle.claims.specs.Verdicts.{bytes, over}
+use Rattle.formulas.specs.Tables.{over}
+use Rattle.claims.specs.Verdicts.{bytes}
 use Rattle.claims.specs.Boards.{truths_in}
 use Rattle.claims.proofs.judge.fill_table.Given as goal
 

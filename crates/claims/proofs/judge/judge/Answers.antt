@@ -1,7 +1,8 @@
 use Rattle.std.proofs.Common.{is_err, Result, sym, subst}
-use Rattle.claims.specs.declared.fault.Refusal.{Refusal}
+use Rattle.formulas.specs.declared.refusal.Refusal.{Refusal}
+use Rattle.formulas.specs.Tables.{contents}
 use Rattle.claims.specs.declared.verdict.Verdict.{Verdict}
-use Rattle.claims.specs.Books.{judging, entry, fed, contents, stage, Stands}
+use Rattle.claims.specs.Books.{judging, entry, fed, stage, Stands}
 use Rattle.claims.specs.Law.{Said}
 use Rattle.claims.proofs.judge.judge.Goals as goal
 

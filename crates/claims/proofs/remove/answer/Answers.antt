@@ -1,7 +1,6 @@
 use Rattle.std.proofs.Common.{◌*◌, Err, sym, ap, refl, ◌∙◌, ap₂, arith}
 use native.Mathlib.Nat.{one-le-mul}
-use Rattle.formulas.specs.Tables.{slots}
-use Rattle.claims.specs.Books.{contents}
+use Rattle.formulas.specs.Tables.{slots, contents}
 use Rattle.claims.proofs.Removing.{light, few, as_claimed, removes}
 use Rattle.claims.proofs.remove.answer.Goals as goal
 
@@ -44,7 +43,7 @@ returns-in-Err g c =
     let s = contents c.args.tables in
     let second = slots c.args.nodes.now c.args.terms.now c.args.alternatives.now in
     record {
-      refused = sym (as_claimed R c.args.claim s second _ _ _ _ c.fills.ensures c.root.ensures c.mass-mass.ensures c.shared-shared.ensures) ∙ sym c.in-Err.ensures.value ∙ ap Err (sym c.of.ensures);
+      refused = sym (as_claimed R c.args.claim s second _ _ _ _ c.fills.ensures c.root.ensures c.mass-mass.ensures c.shared-shared.ensures) ∙ sym c.in-Err.ensures.value;
       claim = refl;
       tables = c.in-Err.ensures.tables;
     }

@@ -1,5 +1,4 @@
-use Rattle.formulas.specs.Tables.{slots}
-use Rattle.claims.specs.Books.{contents}
+use Rattle.formulas.specs.Tables.{slots, contents}
 use Rattle.claims.proofs.remove.remove.Goals as goal
 
 pub returns : goal.returns

@@ -22,6 +22,6 @@ returns-in-Err c =
     let before = desk (slots c.args.nodes.now c.args.terms.now c.args.alternatives.now) c.args.map.now in
     let after = desk (slots c.simplify_in_place.new.nodes c.simplify_in_place.new.terms c.simplify_in_place.new.alternatives) c.simplify_in_place.new.map in
     record {
-      outcome = refuses c.args.claim.now before after _ _ _ c.fills.ensures c.root.ensures c.mass-mass.ensures c.of.result _ (ap (λ why. done (Err why) after) c.of.ensures ∙ c.in-Err.ensures.outcome) refl;
+      outcome = refuses c.args.claim.now before after _ _ _ c.fills.ensures c.root.ensures c.mass-mass.ensures _ _ c.in-Err.ensures.outcome refl;
       settled = tt;
     }
