@@ -22,6 +22,9 @@ pub struct Pile<U: System, L: System> {
     upper: U,
     lower: L,
     shared: ActionSet,
+    // Kept, since each question asks for it: asked of the parts anew, nested piles take twice as long.
+    states: u32,
+    ghost counted: { states ≡ (U.System.meaning upper).states * (L.System.meaning lower).states },
     ghost limited: { Limited (pile (has shared) (U.System.meaning upper) (L.System.meaning lower)) },
 }
 
@@ -43,6 +46,7 @@ impl<U: System, L: System> Pile<U, L> {
             upper,
             lower,
             shared,
+            states: states as u32,
         })
     }
 
@@ -50,7 +54,7 @@ impl<U: System, L: System> Pile<U, L> {
     fn split(&self, state: u32) -> Option<(u32, u32)>
         ensures { MatchOption result ((U.System.meaning self.now.upper).states * (L.System.meaning self.now.lower).states ≤ state) (λ p. Split (has self.now.shared) (U.System.meaning self.now.upper) (L.System.meaning self.now.lower) state p.0 p.1) }
     {
-        if state >= self.states() {
+        if state >= self.states {
             return None;
         }
         let k = self.lower.states();
@@ -78,7 +82,7 @@ impl<U: System, L: System> System for Pile<U, L> {
     } };
 
     fn states(&self) -> u32 {
-        self.upper.states() * self.lower.states()
+        self.states
     }
 
     fn mass(&self) -> u64 {
