@@ -6,9 +6,13 @@ use Rattle.std.proofs.lemmas.List.{append-nil, get_or-replicate}
 use Rattle.std.proofs.lemmas.Bool.{cases_eq, cases_Bool, cond-true, cond-false, and_parts, eqb-true}
 use Rattle.systems.specs.declared.records.MoveRecord.{MoveRecord}
 use Rattle.systems.specs.Tables.{asks, asked, no_record, row, cell_of}
-use Rattle.systems.specs.Counts.{Counted}
 use Rattle.systems.specs.Index.{Grouped}
 use Rattle.systems.specs.Runs.{asks_from, asks_not_state, asks_not_action}
+
+-- the counts of the first i records
+pub record Counted (rs : List MoveRecord) (i : ℕ) (counts : List ℕ) : Type 0 where
+  pub whole : length counts ≡ 2048
+  pub each : (k a : ℕ) → k < 64 → a < 32 → get_or counts (cell_of k a) 0 ≡ length (asked k a (take i rs))
 
 -- what stands in each cell when that of a record has a new value
 set_cell : {X : Type 0} (xs : List X) (r : MoveRecord) (y d : X) (k a : ℕ) → r.action < 32 → a < 32 → cell_of r.state r.action < length xs → get_or (set xs (cell_of r.state r.action) y) (cell_of k a) d ≡ cond (asks k a r) y (get_or xs (cell_of k a) d)

@@ -2,7 +2,7 @@
 use Rattle.std.specs.Prelude.{◌≡◌, ℕ, ◌+◌, ◌/◌, ◌%◌, ◌<◌, ◌≤◌, Bool, true, false, ◌&&◌, ltb, ◌⊎◌, List, [], ◌∷◌, map, length, get_or, Some, None, ◌==◌, nat_le, nat_lt, slice_index_or, refl}
 use Rattle.std.proofs.Common.{sym, ap, subst, ◌∙◌, inl, inr, arith}
 use Rattle.std.proofs.Math.Path.{fun_ext}
-use Rattle.std.specs.List.{AllByRecursion, slice_get}
+use Rattle.std.specs.List.{AllByRecursion, list_all, slice_get}
 use Rattle.std.proofs.lemmas.Nat.{div_below, mod_below, div-add-mod'}
 use Rattle.std.proofs.ByRecursion.{All-from_get_or, All-get_or, All-map, All-weaker}
 use Rattle.std.proofs.lemmas.List.{get_or_past, get_or-map, take_all, length-map}
@@ -10,20 +10,20 @@ use Rattle.std.proofs.lemmas.Bool.{and_from, and_left, and_right, and_parts, eq-
 use Rattle.systems.specs.declared.system.Target.{Target}
 use Rattle.systems.specs.declared.records.MoveRecord.{MoveRecord}
 use Rattle.systems.specs.Meaning.{Move, Sound, Good, Between, total}
-use Rattle.systems.specs.Tables.{every, asked, row, no_record, run, good_run, longest, table_meaning, cell_of}
+use Rattle.systems.specs.Tables.{asked, row, no_record, run, good_run, longest, table_meaning, cell_of}
 use Rattle.systems.specs.Mounts.{first_fault}
 use Rattle.systems.specs.Index.{listed, index_meaning, good_record, good_list, good_index, Listed, Grouped}
 use Rattle.systems.specs.Runs.{aimed_run, length_run, nth_run, nth_run_past}
 use Rattle.systems.specs.Mounted.{all_fine, all_sized, asked_all, few_all, none_past, none_acts}
 
 module _ {X : Type 0} (p : X → Bool) where
-  every_all : (xs : List X) → every p xs ≡ true → AllByRecursion (λ x. p x ≡ true) xs
+  every_all : (xs : List X) → list_all p xs ≡ true → AllByRecursion (λ x. p x ≡ true) xs
   every_all [] e = tt
-  every_all (x ∷ xs) e = let q = and_parts (p x) (every p xs) e in (q.0, every_all xs q.1)
+  every_all (x ∷ xs) e = let q = and_parts (p x) (list_all p xs) e in (q.0, every_all xs q.1)
 
-  all_every : (xs : List X) → AllByRecursion (λ x. p x ≡ true) xs → every p xs ≡ true
+  all_every : (xs : List X) → AllByRecursion (λ x. p x ≡ true) xs → list_all p xs ≡ true
   all_every [] h = refl
-  all_every (x ∷ xs) h = and_from (p x) (every p xs) h.0 (all_every xs h.1)
+  all_every (x ∷ xs) h = and_from (p x) (list_all p xs) h.0 (all_every xs h.1)
 
 -- a record of a good index
 pub record Fit (n b : ℕ) (ts : List Target) (r : MoveRecord) : Type 0 where
@@ -56,12 +56,12 @@ module _ (n b : ℕ) (ts : List Target) where
 
   fits_list : (rs : List MoveRecord) → good_list n b ts rs ≡ true → Fits rs
   fits_list rs e =
-      let p = and_parts (nat_le (length rs) b) (every (good_record n b ts) rs) e in
+      let p = and_parts (nat_le (length rs) b) (list_all (good_record n b ts) rs) e in
       record { few = leb-true (length rs) b p.0; each = All-weaker (λ r. good_record n b ts r ≡ true) (Fit n b ts) fit rs (every_all (good_record n b ts) rs p.1) }
 
   list_fits : (rs : List MoveRecord) → length rs ≤ b → AllByRecursion (Fit n b ts) rs → good_list n b ts rs ≡ true
   list_fits rs h each =
-      and_from (nat_le (length rs) b) (every (good_record n b ts) rs) (le-leb (length rs) b h)
+      and_from (nat_le (length rs) b) (list_all (good_record n b ts) rs) (le-leb (length rs) b h)
       (all_every (good_record n b ts) rs (All-weaker (Fit n b ts) (λ r. good_record n b ts r ≡ true) unfit rs each))
 
   module _ (cells : List (List MoveRecord)) (good : good_index n b cells ts ≡ true) where
