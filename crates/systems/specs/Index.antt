@@ -28,11 +28,6 @@ good_list n b ts rs = nat_le (length rs) b && list_all (good_record n b ts) rs
 abbrev pub good_index : ℕ → ℕ → List (List MoveRecord) → List Target → Bool
 good_index n b cells ts = list_all (good_list n b ts) cells
 
--- rows are the records of a state and an action in a good index
-pub record Listed (n b : ℕ) (ts : List Target) (cells : List (List MoveRecord)) (k a : ℕ) (rows : List MoveRecord) : Type 0 where
-  pub is : rows ≡ listed n cells k a
-  pub good : good_index n b cells ts ≡ true
-
 -- the first i records, each in the list of its state and action
 pub record Grouped (n : ℕ) (rs : List MoveRecord) (i : ℕ) (cells : List (List MoveRecord)) : Type 0 where
   pub size : length cells ≡ n * 32

@@ -12,7 +12,7 @@ use Rattle.systems.specs.declared.records.MoveRecord.{MoveRecord}
 use Rattle.systems.specs.Meaning.{Move, Sound, Good, Between, total}
 use Rattle.systems.specs.Tables.{asked, row, no_record, run, good_run, longest, table_meaning, cell_of}
 use Rattle.systems.specs.Mounts.{first_fault}
-use Rattle.systems.specs.Index.{listed, index_meaning, good_record, good_list, good_index, Listed, Grouped}
+use Rattle.systems.specs.Index.{listed, index_meaning, good_record, good_list, good_index, Grouped}
 use Rattle.systems.specs.Runs.{aimed_run, length_run, nth_run, nth_run_past}
 use Rattle.systems.specs.Mounted.{all_fine, all_sized, asked_all, few_all, none_past, none_acts}
 
@@ -104,34 +104,6 @@ module _ (n b : ℕ) (ts : List Target) where
 
 pub in_range : (n : ℕ) (cells : List (List MoveRecord)) (k a : ℕ) → k < n → a < 32 → listed n cells k a ≡ slice_index_or cells (cell_of k a) []
 in_range n cells k a p q = cond-true (nat_lt k n && nat_lt a 32) (slice_index_or cells (cell_of k a) []) [] (and_from (nat_lt k n) (nat_lt a 32) (lt-ltb k n p) (lt-ltb a 32 q))
-
--- the records of a state and an action, and the moves that they have
-module _ {n b : ℕ} {ts : List Target} {cells : List (List MoveRecord)} {k a : ℕ} {rows : List MoveRecord} (h : Listed n b ts cells k a rows) where
-  pub few_rows : length rows ≤ b
-  few_rows = omega (arith, ap length h.is, few_listed n b ts cells h.good k a)
-
-  pub count_rows : length rows ≡ length (map (run ts) (listed n cells k a))
-  count_rows = ap length h.is ∙ sym (length-map (listed n cells k a) (run ts))
-
-  module _ (mv : ℕ) where
-    pub no_move : length rows ≤ mv → slice_index_or (map (run ts) (listed n cells k a)) mv [] ≡ []
-    no_move g = get_or_past (map (run ts) (listed n cells k a)) mv [] (omega (arith, count_rows))
-
-    module _ (l : mv < length rows) where
-      pub fit_row : Fit n b ts (slice_index_or rows mv no_record)
-      fit_row = subst (λ (xs : List MoveRecord). Fit n b ts (slice_index_or xs mv no_record)) (sym h.is) (fit_listed n b ts cells h.good k a mv no_record (omega (arith, ap length h.is)))
-
-      the_move : get_or (map (run ts) (listed n cells k a)) mv [] ≡ run ts (slice_index_or rows mv no_record)
-      the_move = ap (λ (xs : List MoveRecord). get_or (map (run ts) xs) mv []) (sym h.is) ∙ get_or-map (run ts) rows mv no_record [] l
-
-      pub count_targets : (get_or rows mv no_record).count ≡ length (slice_index_or (map (run ts) (listed n cells k a)) mv [])
-      count_targets = sym (ap length the_move ∙ length_run ts (slice_index_or rows mv no_record) fit_row.placed)
-
-      pub target_at : (j : ℕ) (d : Target) → j < (get_or rows mv no_record).count → Some (slice_index_or ts ((get_or rows mv no_record).first + j) d) ≡ slice_get (slice_index_or (map (run ts) (listed n cells k a)) mv []) j
-      target_at j d l' = sym (ap (λ (xs : Move). slice_get xs j) the_move ∙ nth_run ts (slice_index_or rows mv no_record) j d fit_row.placed l')
-
-      pub no_target : (j : ℕ) → (get_or rows mv no_record).count ≤ j → None ≡ slice_get (slice_index_or (map (run ts) (listed n cells k a)) mv []) j
-      no_target j g = sym (ap (λ (xs : Move). slice_get xs j) the_move ∙ nth_run_past ts (slice_index_or rows mv no_record) j fit_row.placed g)
 
 -- the index of tables in which no record is refused
 module _ (n : ℕ) (rs : List MoveRecord) (ts : List Target) (cells : List (List MoveRecord)) (ok : first_fault n rs ts (length rs) ≡ None) (g : Grouped n rs (length rs) cells) where
