@@ -1,10 +1,10 @@
 -- The fault of a record, where the records before it are counted.
-use Rattle.std.proofs.Common.{◌≡◌, ℕ, ◌+◌, ◌<◌, ◌≤◌, max, true, false, ◌&&◌, ◌⊎◌, List, length, get_or, take, set, Some, None, sym, refl, ap, ◌∙◌, subst, inl, inr, arith}
+use Rattle.std.proofs.Common.{◌≡◌, ℕ, ◌+◌, ◌<◌, ◌≤◌, max, true, false, ◌⊎◌, List, length, get_or, take, set, Some, None, sym, refl, ap, ◌∙◌, inl, inr, arith}
 use Rattle.std.proofs.lemmas.Bool.{cases_Bool, and_left, cond-false}
 use Rattle.systems.specs.declared.system.Target.{Target}
 use Rattle.systems.specs.declared.records.MoveRecord.{MoveRecord}
 use Rattle.systems.specs.declared.fault.MountFault.TheVariants.{Record}
-use Rattle.systems.specs.Tables.{asked, no_record, row, run, fits_alone, longest, cell_of}
+use Rattle.systems.specs.Tables.{asked, no_record, row, fits_alone, longest, cell_of}
 use Rattle.systems.specs.Mounts.{record_fault, row_fault}
 use Rattle.systems.specs.Runs.{asks_from, count_hit}
 use Rattle.systems.specs.Mounted.{Alone, alone, Fine, fine, longest_more}

@@ -1,19 +1,19 @@
 -- An index of good records: what it means is sound, and what it answers.
-use Rattle.std.specs.Prelude.{◌≡◌, ℕ, ◌+◌, ◌/◌, ◌%◌, ◌<◌, ◌≤◌, Bool, true, false, ◌&&◌, ltb, ◌⊎◌, List, [], ◌∷◌, map, length, get_or, Some, None, ◌==◌, nat_le, nat_lt, slice_index_or, refl}
+use Rattle.std.specs.Prelude.{◌≡◌, ℕ, ◌+◌, ◌/◌, ◌%◌, ◌<◌, ◌≤◌, Bool, true, false, ◌&&◌, ltb, ◌⊎◌, List, [], ◌∷◌, map, length, get_or, None, ◌==◌, nat_le, nat_lt, slice_index_or, refl}
 use Rattle.std.proofs.Common.{sym, ap, subst, ◌∙◌, inl, inr, arith}
 use Rattle.std.proofs.Math.Path.{fun_ext}
-use Rattle.std.specs.List.{AllByRecursion, list_all, slice_get}
+use Rattle.std.specs.List.{AllByRecursion, list_all}
 use Rattle.std.proofs.lemmas.Nat.{div_below, mod_below, div-add-mod'}
 use Rattle.std.proofs.ByRecursion.{All-from_get_or, All-get_or, All-map, All-weaker}
-use Rattle.std.proofs.lemmas.List.{get_or_past, get_or-map, take_all, length-map}
+use Rattle.std.proofs.lemmas.List.{get_or_past, take_all, length-map}
 use Rattle.std.proofs.lemmas.Bool.{and_from, and_left, and_right, and_parts, eq-eqb, eqb-true, lt-ltb, le-ltb, le-leb, leb-true, cond-true, cond-false, cases_lt, cases_Bool}
 use Rattle.systems.specs.declared.system.Target.{Target}
 use Rattle.systems.specs.declared.records.MoveRecord.{MoveRecord}
 use Rattle.systems.specs.Meaning.{Move, Sound, Good, Between, total}
-use Rattle.systems.specs.Tables.{asked, row, no_record, run, good_run, longest, table_meaning, cell_of}
+use Rattle.systems.specs.Tables.{asked, row, run, good_run, longest, table_meaning, cell_of}
 use Rattle.systems.specs.Mounts.{first_fault}
 use Rattle.systems.specs.Index.{listed, index_meaning, good_record, good_list, good_index, Grouped}
-use Rattle.systems.specs.Runs.{aimed_run, length_run, nth_run, nth_run_past}
+use Rattle.systems.specs.Runs.{aimed_run, length_run}
 use Rattle.systems.specs.Mounted.{all_fine, all_sized, asked_all, few_all, none_past, none_acts}
 
 module _ {X : Type 0} (p : X → Bool) where
@@ -81,9 +81,6 @@ module _ (n b : ℕ) (ts : List Target) where
 
     pub few_listed : (k a : ℕ) → length (listed n cells k a) ≤ b
     few_listed k a = (fits_listed k a).few
-
-    pub fit_listed : (k a mv : ℕ) (d : MoveRecord) → mv < length (listed n cells k a) → Fit n b ts (slice_index_or (listed n cells k a) mv d)
-    fit_listed k a mv d l = All-get_or (Fit n b ts) (listed n cells k a) mv d l (fits_listed k a).each
 
     none_listed : (k a : ℕ) → nat_lt k n && nat_lt a 32 ≡ false → listed n cells k a ≡ []
     none_listed k a e = cond-false (nat_lt k n && nat_lt a 32) (slice_index_or cells (cell_of k a) []) [] e

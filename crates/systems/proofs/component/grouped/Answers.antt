@@ -1,7 +1,6 @@
 use Rattle.std.proofs.Common.{◌≡◌, ℕ, ◌+◌, ◌*◌, ◌<◌, [], ◌∷◌, ◌++◌, map, length, get_or, set, replicate, vec_items, sym, ap, ◌∙◌, subst, arith, rules}
 use lib.Seq.{map-set}
-use Rattle.std.proofs.lemmas.List.{get_or-map, length-map, take_all}
-use Rattle.systems.specs.declared.records.MoveRecord.{MoveRecord}
+use Rattle.std.proofs.lemmas.List.{get_or-map, length-map}
 use Rattle.systems.specs.Tables.{no_record, row}
 use Rattle.systems.specs.Index.{Grouped}
 use Rattle.systems.proofs.Tallied.{filled, grouped_none, grouped_more}

@@ -1,8 +1,7 @@
-use Rattle.std.proofs.Common.{◌≡◌, ℕ, ◌+◌, max, List, length, get_or, set, sym, refl, ap, ◌∙◌, ap₂}
+use Rattle.std.proofs.Common.{max, length, sym, refl, ◌∙◌, ap₂}
 use Rattle.std.proofs.lemmas.Result.{err_from_is_err_and}
 use Rattle.systems.specs.Mounted.{fault_first, none_more}
-use Rattle.systems.specs.Tables.{cell_of, row}
-use Rattle.systems.proofs.Tallied.{Counted, counted_none}
+use Rattle.systems.proofs.Tallied.{counted_none}
 use Rattle.systems.proofs.Walked.{same-fault, counted-right, longest-right}
 use Rattle.systems.proofs.tables.walk.Goals as goal
 
