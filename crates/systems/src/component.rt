@@ -56,12 +56,8 @@ impl Component {
         ensures { elim result [ Ok v ↦ (mount_fault states moves.now targets.now ≡ None) × (index_meaning v.states v.breadth (map vec_items v.cells.items) v.targets.items ≡ table_meaning states moves.now targets.now) | Err f ↦ mount_fault states moves.now targets.now ≡ blamed f ] }
     {
         let breadth = survey(states, moves, targets)?;
-        let Ok(cells) = grouped(heap, states, moves) else {
-            return Err(MountFault::NoMemory);
-        };
-        let Ok(targets) = Vec::from_slice(heap, targets) else {
-            return Err(MountFault::NoMemory);
-        };
+        let cells = grouped(heap, states, moves)?;
+        let targets = Vec::from_slice(heap, targets)?;
         Ok(Component {
             states,
             breadth,
