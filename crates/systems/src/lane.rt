@@ -2,7 +2,7 @@
 ghost use Rattle.std.specs.Prelude.{◌≡◌, ◌<◌, ◌≤◌, true, false, Ok, Err};
 ghost use Rattle.systems.specs.Meaning.{Between};
 ghost use Rattle.systems.specs.Kinds.{lane_meaning, lane_numbers};
-ghost use Rattle.std.proofs.Common.{rules, arith};
+ghost use Rattle.std.proofs.Common.{rules};
 
 use crate::fault::Fault;
 use crate::system::{System, Target};
@@ -40,7 +40,7 @@ impl Lane {
 impl System for Lane {
     ghost meaning = { λ v. lane_meaning v.capacity v.put v.take v.loss };
 
-    ghost sound = { first_of (Prim.search rules, Prim.grind (arith, Self.row.coded.inj)) };
+    ghost sound = { Prim.search rules };
 
     fn states(&self) -> u32 {
         self.capacity + 1
