@@ -1,20 +1,20 @@
 -- What the methods of a pile owe, as facts of numbers and lists.
-use Rattle.std.proofs.Common.{◌≡◌, ℕ, ◌+◌, ◌-◌, ◌*◌, ◌/◌, ◌%◌, ◌<◌, ◌≤◌, Bool, true, false, ltb, ◌⊎◌, List, [], ◌∷◌, length, get_or, Some, None, Option, sym, refl, ap, ◌∙◌, subst, ap₂, inl, inr, mod-eq_of_lt, mul-le-mul, one-mul, mul-one, div-one, arith}
+use Rattle.std.proofs.Common.{◌≡◌, ℕ, ◌+◌, ◌-◌, ◌*◌, ◌/◌, ◌%◌, ◌<◌, ◌≤◌, Bool, true, false, ◌⊎◌, List, [], ◌∷◌, length, get_or, Some, None, Option, sym, refl, ap, ◌∙◌, subst, ap₂, inl, inr, mod-eq_of_lt, mul-le-mul, one-mul, mul-one, div-one, arith}
 use native.Mathlib.Nat.{mod-one, div-eq_of_lt}
 use lib.Arith.{digits_lt}
 use Rattle.std.specs.List.{slice_get}
 use Rattle.std.proofs.lemmas.List.{get_or_past, nil_from_length}
 use Rattle.std.proofs.lemmas.Option.{slice_get-get_or, slice_get_past}
-use Rattle.std.proofs.lemmas.Bool.{cases_lt, cases_Bool, cond-true, cond-false, and_parts, and_cases, ltb-true, ltb-false}
+use Rattle.std.proofs.lemmas.Bool.{cases_lt}
 use Rattle.std.proofs.ByRecursion.{All-get_or}
 use Rattle.std.proofs.lemmas.List.Sums.{get_or-le-sum_by}
 use Rattle.systems.specs.declared.system.Target.{Target}
 use Rattle.systems.specs.Meaning.{Meaning, Move, Ruled, Good, Aimed, point}
-use Rattle.systems.specs.Piles.{over, pair, moves_over, pile_moves, pile}
-use Rattle.systems.specs.Fitted.{fitted, agrees, Outside, Split, both, Room}
+use Rattle.systems.specs.Piles.{over, pair, moves_over, pile}
+use Rattle.systems.specs.Splits.{Split}
 use Rattle.systems.specs.Cross.{length_cross}
-use Rattle.systems.specs.Piled.{inside_moves, outside_moves, shared_moves, shared_count, apart_count, shared_move, upper_move, lower_move, cross_nil, nth_pair, good_move}
-use Rattle.systems.specs.PiledSound.{Same, same_numbers, upper_below, lower_below}
+use Rattle.systems.specs.Piled.{both, both_none, inside_moves, shared_moves, shared_count, apart_count, shared_move, upper_move, lower_move, cross_nil, nth_pair, good_move}
+use Rattle.systems.specs.PiledSound.{upper_below, lower_below}
 
 -- a target that a ruled system may answer
 abbrev pub Held : ℕ → ℕ → Option Target → Type 0
@@ -44,23 +44,14 @@ module _ (S : Meaning) (s : Ruled S) where
       go (inl l) = at (get_or (S.moves k a) i []) (good_move S s k a i l) (cases_lt j (length (get_or (S.moves k a) i [])))
       go (inr g) = rw (get_or_past (S.moves k a) i [] g) tt
 
-pub room_from : (n m n' m' : ℕ) (x y : Option Target) → Held n m x → Held n' m' y → n * n' ≤ 1073741824 → m * m' ≤ 1000000000000000 → Room n' x y
-room_from n m n' m' (Some x) (Some y) h h' p q =
-    let d : x.state * n' + y.state < n * n' = digits_lt h.0 h'.0 in
-    let w : x.weight * y.weight ≤ m * m' = mul-le-mul h.1 h'.1 in
-    (omega arith, omega arith)
-room_from n m n' m' (Some x) None h h' p q = tt
-room_from n m n' m' None (Some y) h h' p q = tt
-room_from n m n' m' None None h h' p q = tt
-
 -- the lengths and the elements of a pair
-pub length-pair : (k : ℕ) (mu ml : Move) → length (pair k mu ml) ≡ length mu * length ml
+length-pair : (k : ℕ) (mu ml : Move) → length (pair k mu ml) ≡ length mu * length ml
 length-pair k mu ml = length_cross (over k) mu ml
 
-pub nth_upper : (k : ℕ) (mu : Move) (t : Target) (i : ℕ) → slice_get (pair k mu (t ∷ [])) i ≡ both k (slice_get mu i) (Some t)
+nth_upper : (k : ℕ) (mu : Move) (t : Target) (i : ℕ) → slice_get (pair k mu (t ∷ [])) i ≡ both k (slice_get mu i) (Some t)
 nth_upper k mu t i = nth_pair k mu (t ∷ []) i (omega arith) ∙ rw (div-one i, mod-one i) refl
 
-pub nth_lower : (k : ℕ) (t : Target) (ml : Move) (i : ℕ) → slice_get (pair k (t ∷ []) ml) i ≡ both k (Some t) (slice_get ml i)
+nth_lower : (k : ℕ) (t : Target) (ml : Move) (i : ℕ) → slice_get (pair k (t ∷ []) ml) i ≡ both k (Some t) (slice_get ml i)
 nth_lower k t ml i = go (cases_lt i (length ml))
   where
     go : (i < length ml) ⊎ (length ml ≤ i) → slice_get (pair k (t ∷ []) ml) i ≡ both k (Some t) (slice_get ml i)
@@ -69,135 +60,128 @@ nth_lower k t ml i = go (cases_lt i (length ml))
         let e : length (pair k (t ∷ []) ml) ≤ i = omega (arith, length-pair k (t ∷ []) ml, one-mul (length ml)) in
         slice_get_past (pair k (t ∷ []) ml) i e ∙ rw (slice_get_past ml i g) refl
 
-pub moves_outside : {A : ℕ → Bool} {n m b : ℕ} {U L : Meaning} {s : ℕ} → Outside A n m b U L s → (a : ℕ) → (fitted n m b (pile A U L)).moves s a ≡ []
-moves_outside {A} {n} {m} {b} {U} {L} {s} h a = go (cases_Bool (agrees n m b (pile A U L))) (and_cases (ltb s n) (agrees n m b (pile A U L)) h.without)
-  where
-    none : agrees n m b (pile A U L) ≡ false → (fitted n m b (pile A U L)).moves s a ≡ []
-    none f = cond-false (agrees n m b (pile A U L)) (pile_moves A U L s a) [] f
-
-    go : (agrees n m b (pile A U L) ≡ true) ⊎ (agrees n m b (pile A U L) ≡ false) → (ltb s n ≡ false) ⊎ (agrees n m b (pile A U L) ≡ false) → (fitted n m b (pile A U L)).moves s a ≡ []
-    go (inr f) g = none f
-    go (inl t) (inr g) = none g
-    go (inl t) (inl g) = cond-true (agrees n m b (pile A U L)) (pile_moves A U L s a) [] t ∙ outside_moves A U L s a (omega (arith, ltb-false s n g, (same_numbers n m b (pile A U L) t).states_same))
-
 -- in a state that is u over v
-module _ {A : ℕ → Bool} {n m b : ℕ} {U L : Meaning} {s u v : ℕ} (h : Split A n m b U L s u v) where
-  numbers : Same n m b (pile A U L)
-  numbers = same_numbers n m b (pile A U L) (and_parts (ltb s n) (agrees n m b (pile A U L)) h.within).1
-
-  state-inside : s < U.states * L.states
-  state-inside = omega (arith, numbers.states_same, ltb-true s n (and_parts (ltb s n) (agrees n m b (pile A U L)) h.within).0)
-
+module _ {A : ℕ → Bool} {U L : Meaning} {s u v : ℕ} (h : Split A U L s u v) where
   upper-inside : u < U.states
-  upper-inside = rw h.upper_at (upper_below A U L h.upper_ruled h.lower_ruled s state-inside)
+  upper-inside = rw h.upper_at (upper_below A U L h.upper_ruled h.lower_ruled s h.within)
 
   lower-inside : v < L.states
   lower-inside = rw h.lower_at (lower_below A U L h.upper_ruled h.lower_ruled s)
 
   -- the moves are those of u over v
   module _ (a : ℕ) where
-    split_moves : (fitted n m b (pile A U L)).moves s a ≡ moves_over A U L u v a
-    split_moves =
-        cond-true (agrees n m b (pile A U L)) (pile_moves A U L s a) [] (and_parts (ltb s n) (agrees n m b (pile A U L)) h.within).1
-        ∙ inside_moves A U L s a state-inside
-        ∙ ap₂ (λ (x y : ℕ). moves_over A U L x y a) (sym h.upper_at) (sym h.lower_at)
+    split_moves : (pile A U L).moves s a ≡ moves_over A U L u v a
+    split_moves = inside_moves A U L s a h.within ∙ ap₂ (λ (x y : ℕ). moves_over A U L x y a) (sym h.upper_at) (sym h.lower_at)
 
     module _ {up low : ℕ} (eu : up ≡ length (U.moves u a)) (el : low ≡ length (L.moves v a)) where
-      pub count-shared : true ≡ A a → up * low ≡ length ((fitted n m b (pile A U L)).moves s a)
+      pub count-shared : true ≡ A a → up * low ≡ length ((pile A U L).moves s a)
       count-shared sh = let p = ap length split_moves in let q = shared_count A U L u v a (sym sh) in cc
 
-      pub count-apart : false ≡ A a → up + low ≡ length ((fitted n m b (pile A U L)).moves s a)
+      pub count-apart : false ≡ A a → up + low ≡ length ((pile A U L).moves s a)
       count-apart sh = let p = ap length split_moves in let q = apart_count A U L u v a (sym sh) in cc
 
       pub few-shared : up * low ≤ 1073741824
       few-shared =
           let p : up * low ≤ U.breadth * L.breadth = mul-le-mul (omega (arith, h.upper_ruled.few u a)) (omega (arith, h.lower_ruled.few v a)) in
-          omega (arith, numbers.breadth_same, h.narrow)
+          omega (arith, h.limited.breadth_high)
 
     pub short-shared : (i j : ℕ) {x y : ℕ} → x ≡ length (get_or (U.moves u a) i []) → y ≡ length (get_or (L.moves v a) j []) → x * y ≤ 1073741824
     short-shared i j {x} {y} ex ey =
         let p : x * y ≤ U.breadth * L.breadth = mul-le-mul (omega (arith, short-move U h.upper_ruled u a i)) (omega (arith, short-move L h.lower_ruled v a j)) in
-        omega (arith, numbers.breadth_same, h.narrow)
+        omega (arith, h.limited.breadth_high)
 
     -- what stands over what fits, where the lower system has k states
     module _ {k : ℕ} (ek : k ≡ L.states) where
-      room_of : (x y : Option Target) → Held U.states U.mass x → Held L.states L.mass y → Room k x y
+      Room : Target → Target → Type 0
+      Room x y = (x.state * k + y.state ≤ 1073741824) × (x.weight * y.weight ≤ 1000000000000000)
+
+      room_of : (x y : Target) → Held U.states U.mass (Some x) → Held L.states L.mass (Some y) → Room x y
+      unfolding Room
       room_of x y hx hy =
-          subst (λ (z : ℕ). Room z x y) (sym ek)
-          (room_from U.states U.mass L.states L.mass x y hx hy (omega (arith, numbers.states_same, h.few_states)) (omega (arith, numbers.mass_same, h.light)))
+          let d : x.state * L.states + y.state < U.states * L.states = digits_lt hx.0 hy.0 in
+          let w : x.weight * y.weight ≤ U.mass * L.mass = mul-le-mul hx.1 hy.1 in
+          let same = ap (λ (z : ℕ). x.state * z + y.state) ek in
+          (omega (arith, h.limited.states_high), omega (arith, h.limited.mass_high))
 
-      pub room-shared : (i j e f : ℕ) {x y : Option Target} → x ≡ slice_get (get_or (U.moves u a) i []) j → y ≡ slice_get (get_or (L.moves v a) e []) f → Room k x y
-      room-shared i j e f {x} {y} ex ey = room_of x y (held-target U h.upper_ruled u a i j x ex) (held-target L h.lower_ruled v a e f y ey)
+      pub room-shared : (i j e f : ℕ) {x y : Target} → Some x ≡ slice_get (get_or (U.moves u a) i []) j → Some y ≡ slice_get (get_or (L.moves v a) e []) f → (x.state * k + y.state ≤ 1073741824) × (x.weight * y.weight ≤ 1000000000000000)
+      unfolding Room
+      room-shared i j e f {x} {y} ex ey = room_of x y (held-target U h.upper_ruled u a i j (Some x) ex) (held-target L h.lower_ruled v a e f (Some y) ey)
 
-      pub room-upper : (i j : ℕ) {w : ℕ} {x : Option Target} → x ≡ slice_get (get_or (U.moves u a) i []) j → w ≡ L.mass → Room k x (Some (record { state = v; weight = w }))
-      room-upper i j {w} {x} ex ew = room_of x (Some (record { state = v; weight = w })) (held-target U h.upper_ruled u a i j x ex) (lower-inside, omega arith)
+      pub room-upper : (i j : ℕ) {w : ℕ} {x : Target} → Some x ≡ slice_get (get_or (U.moves u a) i []) j → w ≡ L.mass → (x.state * k + v ≤ 1073741824) × (x.weight * w ≤ 1000000000000000)
+      unfolding Room
+      room-upper i j {w} {x} ex ew = room_of x (record { state = v; weight = w }) (held-target U h.upper_ruled u a i j (Some x) ex) (lower-inside, omega arith)
 
-      pub room-lower : (i j : ℕ) {w : ℕ} {y : Option Target} → y ≡ slice_get (get_or (L.moves v a) i []) j → w ≡ U.mass → Room k (Some (record { state = u; weight = w })) y
-      room-lower i j {w} {y} ey ew = room_of (Some (record { state = u; weight = w })) y (upper-inside, omega arith) (held-target L h.lower_ruled v a i j y ey)
+      pub room-lower : (i j : ℕ) {w : ℕ} {y : Target} → Some y ≡ slice_get (get_or (L.moves v a) i []) j → w ≡ U.mass → (u * k + y.state ≤ 1073741824) × (w * y.weight ≤ 1000000000000000)
+      unfolding Room
+      room-lower i j {w} {y} ey ew = room_of (record { state = u; weight = w }) y (upper-inside, omega arith) (held-target L h.lower_ruled v a i j (Some y) ey)
 
     -- each move, by its number
     module _ (mv : ℕ) where
       module _ {low : ℕ} (sh : true ≡ A a) (el : low ≡ length (L.moves v a)) where
-        pub no_move : low ≡ 0 → get_or ((fitted n m b (pile A U L)).moves s a) mv [] ≡ []
+        pub no_move : low ≡ 0 → get_or ((pile A U L).moves s a) mv [] ≡ []
         no_move z =
             let e = nil_from_length (L.moves v a) (sym el ∙ z) in
-            let p : (fitted n m b (pile A U L)).moves s a ≡ [] = split_moves ∙ shared_moves A U L u v a (sym sh) ∙ rw e (cross_nil (pair L.states) (U.moves u a)) in
+            let p : (pile A U L).moves s a ≡ [] = split_moves ∙ shared_moves A U L u v a (sym sh) ∙ rw e (cross_nil (pair L.states) (U.moves u a)) in
             rw p refl
 
         module _ (some : low ≡ 0 → ⊥) where
-          pair-move : get_or ((fitted n m b (pile A U L)).moves s a) mv [] ≡ pair L.states (get_or (U.moves u a) (mv / low) []) (get_or (L.moves v a) (mv % low) [])
+          pair-move : get_or ((pile A U L).moves s a) mv [] ≡ pair L.states (get_or (U.moves u a) (mv / low) []) (get_or (L.moves v a) (mv % low) [])
           pair-move = ap (λ (ms : List Move). get_or ms mv []) split_moves ∙ shared_move A U L u v a mv (sym sh) (omega arith) ∙ rw el refl
 
-          pub targets_shared : {x y : ℕ} → x ≡ length (get_or (U.moves u a) (mv / low) []) → y ≡ length (get_or (L.moves v a) (mv % low) []) → x * y ≡ length (get_or ((fitted n m b (pile A U L)).moves s a) mv [])
+          pub targets_shared : {x y : ℕ} → x ≡ length (get_or (U.moves u a) (mv / low) []) → y ≡ length (get_or (L.moves v a) (mv % low) []) → x * y ≡ length (get_or ((pile A U L).moves s a) mv [])
           targets_shared ex ey =
               let p = ap length pair-move in
               let q = length-pair L.states (get_or (U.moves u a) (mv / low) []) (get_or (L.moves v a) (mv % low) []) in
               cc
 
           module _ {t : ℕ} (et : t ≡ length (get_or (L.moves v a) (mv % low) [])) (j : ℕ) where
-            pub no_target : t ≡ 0 → None ≡ slice_get (get_or ((fitted n m b (pile A U L)).moves s a) mv []) j
+            pub no_target : t ≡ 0 → None ≡ slice_get (get_or ((pile A U L).moves s a) mv []) j
             no_target z =
                 let e = nil_from_length (get_or (L.moves v a) (mv % low) []) (sym et ∙ z) in
                 let q = cross_nil (over L.states) (get_or (U.moves u a) (mv / low) []) in
                 sym (ap (λ (xs : Move). slice_get xs j) pair-move ∙ rw (e, q) refl)
 
-            pub target-shared : {k : ℕ} {x y r : Option Target} → k ≡ L.states → (t ≡ 0 → ⊥) → x ≡ slice_get (get_or (U.moves u a) (mv / low) []) (j / t) → y ≡ slice_get (get_or (L.moves v a) (mv % low) []) (j % t) → r ≡ both k x y → r ≡ slice_get (get_or ((fitted n m b (pile A U L)).moves s a) mv []) j
-            target-shared {x = x} {y = y} ek tpos ex ey er =
+            pub target-shared : {k : ℕ} {x y : Option Target} → k ≡ L.states → (t ≡ 0 → ⊥) → x ≡ slice_get (get_or (U.moves u a) (mv / low) []) (j / t) → y ≡ slice_get (get_or (L.moves v a) (mv % low) []) (j % t) → both k x y ≡ slice_get (get_or ((pile A U L).moves s a) mv []) j
+            target-shared {x = x} {y = y} ek tpos ex ey =
                 let p = ap (λ (xs : Move). slice_get xs j) pair-move in
                 let q = nth_pair L.states (get_or (U.moves u a) (mv / low) []) (get_or (L.moves v a) (mv % low) []) j (omega arith) in
-                er ∙ ap (λ (z : ℕ). both z x y) ek ∙ rw (ex, ey, et) (sym (p ∙ q))
+                ap (λ (z : ℕ). both z x y) ek ∙ rw (ex, ey, et) (sym (p ∙ q))
+
+            -- the upper move has no such target
+            pub no_upper : (t ≡ 0 → ⊥) → None ≡ slice_get (get_or (U.moves u a) (mv / low) []) (j / t) → None ≡ slice_get (get_or ((pile A U L).moves s a) mv []) j
+            no_upper tpos ex = sym (both_none L.states _) ∙ target-shared refl tpos ex refl
 
       module _ {up : ℕ} (sh : false ≡ A a) (eu : up ≡ length (U.moves u a)) where
         module _ (l : mv < up) where
-          upper-pair : get_or ((fitted n m b (pile A U L)).moves s a) mv [] ≡ pair L.states (get_or (U.moves u a) mv []) (point L v)
+          upper-pair : get_or ((pile A U L).moves s a) mv [] ≡ pair L.states (get_or (U.moves u a) mv []) (point L v)
           upper-pair = ap (λ (ms : List Move). get_or ms mv []) split_moves ∙ upper_move A U L u v a mv (sym sh) (omega arith)
 
-          pub targets_upper : {x : ℕ} → x ≡ length (get_or (U.moves u a) mv []) → x ≡ length (get_or ((fitted n m b (pile A U L)).moves s a) mv [])
+          pub targets_upper : {x : ℕ} → x ≡ length (get_or (U.moves u a) mv []) → x ≡ length (get_or ((pile A U L).moves s a) mv [])
           targets_upper ex =
               let p = ap length upper-pair in
               let q = length-pair L.states (get_or (U.moves u a) mv []) (point L v) in
               let r = mul-one (length (get_or (U.moves u a) mv [])) in
               cc
 
-          pub target-upper : (j : ℕ) {k w : ℕ} {x r : Option Target} → k ≡ L.states → x ≡ slice_get (get_or (U.moves u a) mv []) j → w ≡ L.mass → r ≡ both k x (Some (record { state = v; weight = w })) → r ≡ slice_get (get_or ((fitted n m b (pile A U L)).moves s a) mv []) j
-          target-upper j ek ex ew er =
+          pub target-upper : (j : ℕ) {k w : ℕ} {x : Option Target} → k ≡ L.states → w ≡ L.mass → x ≡ slice_get (get_or (U.moves u a) mv []) j → both k x (Some (record { state = v; weight = w })) ≡ slice_get (get_or ((pile A U L).moves s a) mv []) j
+          target-upper j ek ew ex =
               let p = ap (λ (xs : Move). slice_get xs j) upper-pair in
               let q = nth_upper L.states (get_or (U.moves u a) mv []) (record { state = v; weight = L.mass }) j in
-              er ∙ rw (ek, ex, ew) (sym (p ∙ q))
+              rw (ek, ex, ew) (sym (p ∙ q))
 
         module _ (g : up ≤ mv) where
-          lower-pair : get_or ((fitted n m b (pile A U L)).moves s a) mv [] ≡ pair L.states (point U u) (get_or (L.moves v a) (mv - up) [])
+          lower-pair : get_or ((pile A U L).moves s a) mv [] ≡ pair L.states (point U u) (get_or (L.moves v a) (mv - up) [])
           lower-pair = ap (λ (ms : List Move). get_or ms mv []) split_moves ∙ lower_move A U L u v a mv (sym sh) (omega arith) ∙ rw eu refl
 
-          pub targets_lower : {x : ℕ} → x ≡ length (get_or (L.moves v a) (mv - up) []) → x ≡ length (get_or ((fitted n m b (pile A U L)).moves s a) mv [])
+          pub targets_lower : {x : ℕ} → x ≡ length (get_or (L.moves v a) (mv - up) []) → x ≡ length (get_or ((pile A U L).moves s a) mv [])
           targets_lower ex =
               let p = ap length lower-pair in
               let q = length-pair L.states (point U u) (get_or (L.moves v a) (mv - up) []) in
               let r = one-mul (length (get_or (L.moves v a) (mv - up) [])) in
               cc
 
-          pub target-lower : (j : ℕ) {k w : ℕ} {y r : Option Target} → k ≡ L.states → y ≡ slice_get (get_or (L.moves v a) (mv - up) []) j → w ≡ U.mass → r ≡ both k (Some (record { state = u; weight = w })) y → r ≡ slice_get (get_or ((fitted n m b (pile A U L)).moves s a) mv []) j
-          target-lower j ek ey ew er =
+          pub target-lower : (j : ℕ) {k w : ℕ} {y : Option Target} → k ≡ L.states → w ≡ U.mass → y ≡ slice_get (get_or (L.moves v a) (mv - up) []) j → both k (Some (record { state = u; weight = w })) y ≡ slice_get (get_or ((pile A U L).moves s a) mv []) j
+          target-lower j ek ew ey =
               let p = ap (λ (xs : Move). slice_get xs j) lower-pair in
               let q = nth_lower L.states (record { state = u; weight = U.mass }) (get_or (L.moves v a) (mv - up) []) j in
-              er ∙ rw (ek, ey, ew) (sym (p ∙ q))
+              rw (ek, ey, ew) (sym (p ∙ q))

@@ -1,14 +1,19 @@
 -- Counts and lists by state and action, one record after another.
-use Rattle.std.proofs.Common.{◌≡◌, ℕ, ◌+◌, ◌*◌, ◌<◌, true, false, cond, eqb, ◌≢◌, ◌⊎◌, List, [], ◌∷◌, ◌++◌, length, get_or, take, set, replicate, sym, ap, ◌∙◌, inl, inr, arith, length-append, length-set, get_or-set_other, get_or-set_same}
+use Rattle.std.proofs.Common.{◌≡◌, ℕ, ◌+◌, ◌*◌, ◌<◌, true, false, cond, eqb, ◌≢◌, ◌⊎◌, List, [], ◌∷◌, ◌++◌, length, get_or, take, set, map, replicate, refl, sym, ap, ap₂, ◌∙◌, subst, inl, inr, arith, length-append, length-set, get_or-set_other, get_or-set_same}
 use lib.ListN.{length-replicate}
+use Rattle.std.specs.List.{AppendsResults, FoldsTo}
 use Rattle.std.proofs.lemmas.List.Elements.{filter_more}
-use Rattle.std.proofs.lemmas.List.{append-nil, get_or-replicate}
+use Rattle.std.proofs.lemmas.List.{append-nil, get_or-replicate, take_all}
 use Rattle.std.proofs.lemmas.Bool.{cases_eq, cases_Bool, cond-true, cond-false, and_parts, eqb-true}
 use Rattle.systems.specs.declared.records.MoveRecord.{MoveRecord}
 use Rattle.systems.specs.Tables.{asks, asked, no_record, row, cell_of}
-use Rattle.systems.specs.Counts.{Counted}
 use Rattle.systems.specs.Index.{Grouped}
 use Rattle.systems.specs.Runs.{asks_from, asks_not_state, asks_not_action}
+
+-- the counts of the first i records
+pub record Counted (rs : List MoveRecord) (i : ℕ) (counts : List ℕ) : Type 0 where
+  pub whole : length counts ≡ 2048
+  pub each : (k a : ℕ) → k < 64 → a < 32 → get_or counts (cell_of k a) 0 ≡ length (asked k a (take i rs))
 
 -- what stands in each cell when that of a record has a new value
 set_cell : {X : Type 0} (xs : List X) (r : MoveRecord) (y d : X) (k a : ℕ) → r.action < 32 → a < 32 → cell_of r.state r.action < length xs → get_or (set xs (cell_of r.state r.action) y) (cell_of k a) d ≡ cond (asks k a r) y (get_or xs (cell_of k a) d)
@@ -24,6 +29,17 @@ set_cell xs r y d k a h h' l = go (cases_eq r.state k) (cases_eq r.action a)
     go (inr p) (inl q) = other (λ e. p (omega arith)) (asks_not_state k a r p)
     go (inl p) (inr q) = other (λ e. q (omega arith)) (asks_not_action k a r q)
     go (inr p) (inr q) = other (λ e. p (omega arith)) (asks_not_state k a r p)
+
+-- an empty list was filled with what calls returned, each of which shows as y
+module _ {F X Y : Type 0} (step : F → X → F → Type 0) (see : X → Y) (y : Y) (each : (p q : F) (x : X) → step p x q → see x ≡ y) where
+  all-alike : (f last : F) (xs : List X) → FoldsTo step f xs last → map see xs ≡ replicate (length xs) y
+  all-alike f last [] h = refl
+  all-alike f last (x ∷ xs) h = ap₂ ◌∷◌ (each f h.0 x h.1) (all-alike h.0 last xs h.2)
+
+  pub filled : (n : ℕ) (old new : List X) (f : F) → old ≡ [] → AppendsResults step (take n old) new f → map see new ≡ replicate (length new) y
+  filled n old new f e h =
+      let same : new ≡ h.0 = h.2 ∙ ap (λ (xs : List X). xs ++ h.0) (ap (take n) e ∙ take_all {A = X} n [] (omega arith)) in
+      subst (λ (xs : List X). map see xs ≡ replicate (length xs) y) (sym same) (all-alike f h.1 h.0 h.3)
 
 module _ (rs : List MoveRecord) where
   pub counted_none : (counts : List ℕ) → counts ≡ replicate 2048 0 → Counted rs 0 counts

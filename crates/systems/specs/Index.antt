@@ -1,9 +1,10 @@
 -- What an index of moves means: for each state and action the records, one list after another.
-use Rattle.std.specs.Prelude.{◌≡◌, ℕ, ◌+◌, ◌*◌, ◌<◌, Bool, true, cond, ◌&&◌, List, [], map, length, take, ◌==◌, nat_le, nat_lt, slice_index_or}
+use Rattle.std.specs.Prelude.{◌≡◌, ℕ, ◌+◌, ◌*◌, ◌<◌, Bool, cond, ◌&&◌, List, [], map, length, take, ◌==◌, nat_le, nat_lt, slice_index_or}
+use Rattle.std.specs.List.{list_all}
 use Rattle.systems.specs.declared.system.Target.{Target}
 use Rattle.systems.specs.declared.records.MoveRecord.{MoveRecord}
 use Rattle.systems.specs.Meaning.{Meaning, total}
-use Rattle.systems.specs.Tables.{every, asked, cell_of, run, good_run}
+use Rattle.systems.specs.Tables.{asked, cell_of, run, good_run}
 
 -- the records of a state and an action
 abbrev pub listed : ℕ → List (List MoveRecord) → ℕ → ℕ → List MoveRecord
@@ -22,15 +23,10 @@ abbrev pub good_record : ℕ → ℕ → List Target → MoveRecord → Bool
 good_record n b ts r = (nat_le r.count b && nat_le (r.first + r.count) (length ts)) && (good_run n (run ts r) && total (run ts r) == 1000)
 
 abbrev pub good_list : ℕ → ℕ → List Target → List MoveRecord → Bool
-good_list n b ts rs = nat_le (length rs) b && every (good_record n b ts) rs
+good_list n b ts rs = nat_le (length rs) b && list_all (good_record n b ts) rs
 
 abbrev pub good_index : ℕ → ℕ → List (List MoveRecord) → List Target → Bool
-good_index n b cells ts = every (good_list n b ts) cells
-
--- rows are the records of a state and an action in a good index
-pub record Listed (n b : ℕ) (ts : List Target) (cells : List (List MoveRecord)) (k a : ℕ) (rows : List MoveRecord) : Type 0 where
-  pub is : rows ≡ listed n cells k a
-  pub good : good_index n b cells ts ≡ true
+good_index n b cells ts = list_all (good_list n b ts) cells
 
 -- the first i records, each in the list of its state and action
 pub record Grouped (n : ℕ) (rs : List MoveRecord) (i : ℕ) (cells : List (List MoveRecord)) : Type 0 where

@@ -1,29 +1,29 @@
 -- An index of good records: what it means is sound, and what it answers.
-use Rattle.std.specs.Prelude.{◌≡◌, ℕ, ◌+◌, ◌/◌, ◌%◌, ◌<◌, ◌≤◌, Bool, true, false, ◌&&◌, ltb, ◌⊎◌, List, [], ◌∷◌, map, length, get_or, Some, None, ◌==◌, nat_le, nat_lt, slice_index_or, refl}
+use Rattle.std.specs.Prelude.{◌≡◌, ℕ, ◌+◌, ◌/◌, ◌%◌, ◌<◌, ◌≤◌, Bool, true, false, ◌&&◌, ltb, ◌⊎◌, List, [], ◌∷◌, map, length, get_or, None, ◌==◌, nat_le, nat_lt, slice_index_or, refl}
 use Rattle.std.proofs.Common.{sym, ap, subst, ◌∙◌, inl, inr, arith}
 use Rattle.std.proofs.Math.Path.{fun_ext}
-use Rattle.std.specs.List.{AllByRecursion, slice_get}
+use Rattle.std.specs.List.{AllByRecursion, list_all}
 use Rattle.std.proofs.lemmas.Nat.{div_below, mod_below, div-add-mod'}
 use Rattle.std.proofs.ByRecursion.{All-from_get_or, All-get_or, All-map, All-weaker}
-use Rattle.std.proofs.lemmas.List.{get_or_past, get_or-map, take_all, length-map}
+use Rattle.std.proofs.lemmas.List.{get_or_past, take_all, length-map}
 use Rattle.std.proofs.lemmas.Bool.{and_from, and_left, and_right, and_parts, eq-eqb, eqb-true, lt-ltb, le-ltb, le-leb, leb-true, cond-true, cond-false, cases_lt, cases_Bool}
 use Rattle.systems.specs.declared.system.Target.{Target}
 use Rattle.systems.specs.declared.records.MoveRecord.{MoveRecord}
 use Rattle.systems.specs.Meaning.{Move, Sound, Good, Between, total}
-use Rattle.systems.specs.Tables.{every, asked, row, no_record, run, good_run, longest, table_meaning, cell_of}
+use Rattle.systems.specs.Tables.{asked, row, run, good_run, longest, table_meaning, cell_of}
 use Rattle.systems.specs.Mounts.{first_fault}
-use Rattle.systems.specs.Index.{listed, index_meaning, good_record, good_list, good_index, Listed, Grouped}
-use Rattle.systems.specs.Runs.{aimed_run, length_run, nth_run, nth_run_past}
+use Rattle.systems.specs.Index.{listed, index_meaning, good_record, good_list, good_index, Grouped}
+use Rattle.systems.specs.Runs.{aimed_run, length_run}
 use Rattle.systems.specs.Mounted.{all_fine, all_sized, asked_all, few_all, none_past, none_acts}
 
 module _ {X : Type 0} (p : X → Bool) where
-  every_all : (xs : List X) → every p xs ≡ true → AllByRecursion (λ x. p x ≡ true) xs
+  every_all : (xs : List X) → list_all p xs ≡ true → AllByRecursion (λ x. p x ≡ true) xs
   every_all [] e = tt
-  every_all (x ∷ xs) e = let q = and_parts (p x) (every p xs) e in (q.0, every_all xs q.1)
+  every_all (x ∷ xs) e = let q = and_parts (p x) (list_all p xs) e in (q.0, every_all xs q.1)
 
-  all_every : (xs : List X) → AllByRecursion (λ x. p x ≡ true) xs → every p xs ≡ true
+  all_every : (xs : List X) → AllByRecursion (λ x. p x ≡ true) xs → list_all p xs ≡ true
   all_every [] h = refl
-  all_every (x ∷ xs) h = and_from (p x) (every p xs) h.0 (all_every xs h.1)
+  all_every (x ∷ xs) h = and_from (p x) (list_all p xs) h.0 (all_every xs h.1)
 
 -- a record of a good index
 pub record Fit (n b : ℕ) (ts : List Target) (r : MoveRecord) : Type 0 where
@@ -56,12 +56,12 @@ module _ (n b : ℕ) (ts : List Target) where
 
   fits_list : (rs : List MoveRecord) → good_list n b ts rs ≡ true → Fits rs
   fits_list rs e =
-      let p = and_parts (nat_le (length rs) b) (every (good_record n b ts) rs) e in
+      let p = and_parts (nat_le (length rs) b) (list_all (good_record n b ts) rs) e in
       record { few = leb-true (length rs) b p.0; each = All-weaker (λ r. good_record n b ts r ≡ true) (Fit n b ts) fit rs (every_all (good_record n b ts) rs p.1) }
 
   list_fits : (rs : List MoveRecord) → length rs ≤ b → AllByRecursion (Fit n b ts) rs → good_list n b ts rs ≡ true
   list_fits rs h each =
-      and_from (nat_le (length rs) b) (every (good_record n b ts) rs) (le-leb (length rs) b h)
+      and_from (nat_le (length rs) b) (list_all (good_record n b ts) rs) (le-leb (length rs) b h)
       (all_every (good_record n b ts) rs (All-weaker (Fit n b ts) (λ r. good_record n b ts r ≡ true) unfit rs each))
 
   module _ (cells : List (List MoveRecord)) (good : good_index n b cells ts ≡ true) where
@@ -82,9 +82,6 @@ module _ (n b : ℕ) (ts : List Target) where
     pub few_listed : (k a : ℕ) → length (listed n cells k a) ≤ b
     few_listed k a = (fits_listed k a).few
 
-    pub fit_listed : (k a mv : ℕ) (d : MoveRecord) → mv < length (listed n cells k a) → Fit n b ts (slice_index_or (listed n cells k a) mv d)
-    fit_listed k a mv d l = All-get_or (Fit n b ts) (listed n cells k a) mv d l (fits_listed k a).each
-
     none_listed : (k a : ℕ) → nat_lt k n && nat_lt a 32 ≡ false → listed n cells k a ≡ []
     none_listed k a e = cond-false (nat_lt k n && nat_lt a 32) (slice_index_or cells (cell_of k a) []) [] e
 
@@ -104,34 +101,6 @@ module _ (n b : ℕ) (ts : List Target) where
 
 pub in_range : (n : ℕ) (cells : List (List MoveRecord)) (k a : ℕ) → k < n → a < 32 → listed n cells k a ≡ slice_index_or cells (cell_of k a) []
 in_range n cells k a p q = cond-true (nat_lt k n && nat_lt a 32) (slice_index_or cells (cell_of k a) []) [] (and_from (nat_lt k n) (nat_lt a 32) (lt-ltb k n p) (lt-ltb a 32 q))
-
--- the records of a state and an action, and the moves that they have
-module _ {n b : ℕ} {ts : List Target} {cells : List (List MoveRecord)} {k a : ℕ} {rows : List MoveRecord} (h : Listed n b ts cells k a rows) where
-  pub few_rows : length rows ≤ b
-  few_rows = omega (arith, ap length h.is, few_listed n b ts cells h.good k a)
-
-  pub count_rows : length rows ≡ length (map (run ts) (listed n cells k a))
-  count_rows = ap length h.is ∙ sym (length-map (listed n cells k a) (run ts))
-
-  module _ (mv : ℕ) where
-    pub no_move : length rows ≤ mv → slice_index_or (map (run ts) (listed n cells k a)) mv [] ≡ []
-    no_move g = get_or_past (map (run ts) (listed n cells k a)) mv [] (omega (arith, count_rows))
-
-    module _ (l : mv < length rows) where
-      pub fit_row : Fit n b ts (slice_index_or rows mv no_record)
-      fit_row = subst (λ (xs : List MoveRecord). Fit n b ts (slice_index_or xs mv no_record)) (sym h.is) (fit_listed n b ts cells h.good k a mv no_record (omega (arith, ap length h.is)))
-
-      the_move : get_or (map (run ts) (listed n cells k a)) mv [] ≡ run ts (slice_index_or rows mv no_record)
-      the_move = ap (λ (xs : List MoveRecord). get_or (map (run ts) xs) mv []) (sym h.is) ∙ get_or-map (run ts) rows mv no_record [] l
-
-      pub count_targets : (get_or rows mv no_record).count ≡ length (slice_index_or (map (run ts) (listed n cells k a)) mv [])
-      count_targets = sym (ap length the_move ∙ length_run ts (slice_index_or rows mv no_record) fit_row.placed)
-
-      pub target_at : (j : ℕ) (d : Target) → j < (get_or rows mv no_record).count → Some (slice_index_or ts ((get_or rows mv no_record).first + j) d) ≡ slice_get (slice_index_or (map (run ts) (listed n cells k a)) mv []) j
-      target_at j d l' = sym (ap (λ (xs : Move). slice_get xs j) the_move ∙ nth_run ts (slice_index_or rows mv no_record) j d fit_row.placed l')
-
-      pub no_target : (j : ℕ) → (get_or rows mv no_record).count ≤ j → None ≡ slice_get (slice_index_or (map (run ts) (listed n cells k a)) mv []) j
-      no_target j g = sym (ap (λ (xs : Move). slice_get xs j) the_move ∙ nth_run_past ts (slice_index_or rows mv no_record) j fit_row.placed g)
 
 -- the index of tables in which no record is refused
 module _ (n : ℕ) (rs : List MoveRecord) (ts : List Target) (cells : List (List MoveRecord)) (ok : first_fault n rs ts (length rs) ≡ None) (g : Grouped n rs (length rs) cells) where

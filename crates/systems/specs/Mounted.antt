@@ -11,7 +11,7 @@ use Rattle.systems.specs.declared.fault.MountFault.{MountFault}
 use Rattle.systems.specs.declared.fault.MountFault.TheVariants.{Record, Weights}
 use Rattle.systems.specs.Meaning.{Between, total}
 use Rattle.systems.specs.Tables.{asks, asked, no_record, row, run, fits_alone, good_run, longest}
-use Rattle.systems.specs.Mounts.{or_else, few_enough, row_fault, first_fault, sizes, mount_fault, blamed}
+use Rattle.systems.specs.Mounts.{or_else, row_fault, first_fault, sizes, mount_fault, blamed}
 use Rattle.systems.specs.Runs.{count_miss}
 
 -- a record that keeps the rules that ask for no other
@@ -94,12 +94,12 @@ module _ (n : ℕ) (rs : List MoveRecord) (ts : List Target) where
 
   -- a record is blamed for its own fault
   blame : (f : MountFault) (i : ℕ) → Some f ≡ row_fault n rs ts i → Some f ≡ blamed f
-  blame f i e = go (cases_Bool (fits_alone n (length ts) (row rs i) && few_enough rs i (row rs i))) (cases_Bool (good_run n (run ts (row rs i)))) (cases_Bool (total (run ts (row rs i)) == 1000))
+  blame f i e = go (cases_Bool (fits_alone n (length ts) (row rs i) && nat_le (length (asked (row rs i).state (row rs i).action (take (i + 1) rs))) 64)) (cases_Bool (good_run n (run ts (row rs i)))) (cases_Bool (total (run ts (row rs i)) == 1000))
     where
       is : (f' : MountFault) → Some f' ≡ blamed f' → row_fault n rs ts i ≡ Some f' → Some f ≡ blamed f
       is f' b p = let q : f' ≡ f = cc in subst (λ (x : MountFault). Some x ≡ blamed x) q b
 
-      go : (fits_alone n (length ts) (row rs i) && few_enough rs i (row rs i) ≡ true) ⊎ (fits_alone n (length ts) (row rs i) && few_enough rs i (row rs i) ≡ false) → (good_run n (run ts (row rs i)) ≡ true) ⊎ (good_run n (run ts (row rs i)) ≡ false) → ((total (run ts (row rs i)) == 1000) ≡ true) ⊎ ((total (run ts (row rs i)) == 1000) ≡ false) → Some f ≡ blamed f
+      go : (fits_alone n (length ts) (row rs i) && nat_le (length (asked (row rs i).state (row rs i).action (take (i + 1) rs))) 64 ≡ true) ⊎ (fits_alone n (length ts) (row rs i) && nat_le (length (asked (row rs i).state (row rs i).action (take (i + 1) rs))) 64 ≡ false) → (good_run n (run ts (row rs i)) ≡ true) ⊎ (good_run n (run ts (row rs i)) ≡ false) → ((total (run ts (row rs i)) == 1000) ≡ true) ⊎ ((total (run ts (row rs i)) == 1000) ≡ false) → Some f ≡ blamed f
       go (inr a) b c = is (Record i) refl (cond-false _ _ _ a)
       go (inl a) (inr b) c = is (Record i) refl (cond-true _ _ _ a ∙ cond-false _ _ _ b)
       go (inl a) (inl b) (inr c) = is (Weights i) refl (cond-true _ _ _ a ∙ cond-true _ _ _ b ∙ cond-false _ _ _ c)
@@ -127,18 +127,18 @@ module _ (n : ℕ) (rs : List MoveRecord) (ts : List Target) where
     pub whole : total (run ts (row rs i)) ≡ 1000
 
   pub fine : (i : ℕ) → row_fault n rs ts i ≡ None → Fine i
-  fine i e = go (cases_Bool (fits_alone n (length ts) (row rs i) && few_enough rs i (row rs i))) (cases_Bool (good_run n (run ts (row rs i)))) (cases_Bool (total (run ts (row rs i)) == 1000))
+  fine i e = go (cases_Bool (fits_alone n (length ts) (row rs i) && nat_le (length (asked (row rs i).state (row rs i).action (take (i + 1) rs))) 64)) (cases_Bool (good_run n (run ts (row rs i)))) (cases_Bool (total (run ts (row rs i)) == 1000))
     where
       never : {A : Type 0} (f : MountFault) → row_fault n rs ts i ≡ Some f → A
       never f p = let z : ◌≡◌ {A = ℕ} 0 1 = cc in absurd (omega arith)
 
-      go : (fits_alone n (length ts) (row rs i) && few_enough rs i (row rs i) ≡ true) ⊎ (fits_alone n (length ts) (row rs i) && few_enough rs i (row rs i) ≡ false) → (good_run n (run ts (row rs i)) ≡ true) ⊎ (good_run n (run ts (row rs i)) ≡ false) → ((total (run ts (row rs i)) == 1000) ≡ true) ⊎ ((total (run ts (row rs i)) == 1000) ≡ false) → Fine i
+      go : (fits_alone n (length ts) (row rs i) && nat_le (length (asked (row rs i).state (row rs i).action (take (i + 1) rs))) 64 ≡ true) ⊎ (fits_alone n (length ts) (row rs i) && nat_le (length (asked (row rs i).state (row rs i).action (take (i + 1) rs))) 64 ≡ false) → (good_run n (run ts (row rs i)) ≡ true) ⊎ (good_run n (run ts (row rs i)) ≡ false) → ((total (run ts (row rs i)) == 1000) ≡ true) ⊎ ((total (run ts (row rs i)) == 1000) ≡ false) → Fine i
       go (inr a) b c = never (Record i) (cond-false _ _ _ a)
       go (inl a) (inr b) c = never (Record i) (cond-true _ _ _ a ∙ cond-false _ _ _ b)
       go (inl a) (inl b) (inr c) = never (Weights i) (cond-true _ _ _ a ∙ cond-true _ _ _ b ∙ cond-false _ _ _ c)
       go (inl a) (inl b) (inl c) =
           let r = row rs i in
-          let p = and_parts (fits_alone n (length ts) r) (few_enough rs i r) a in
+          let p = and_parts (fits_alone n (length ts) r) (nat_le (length (asked r.state r.action (take (i + 1) rs))) 64) a in
           record {
             alone_fits = alone n (length ts) r p.0;
             few = leb-true (length (asked r.state r.action (take (i + 1) rs))) 64 p.1;

@@ -11,15 +11,15 @@ abbrev pub or_else : Option MountFault → Option MountFault → Option MountFau
 or_else (Some f) o = Some f
 or_else None o = o
 
--- the record is at most the 64th of its state and action
-abbrev pub few_enough : List MoveRecord → ℕ → MoveRecord → Bool
-few_enough rs i r = nat_le (length (asked r.state r.action (take (i + 1) rs))) 64
+-- the fault of the record r at place i, which is the nth of its state and action
+abbrev pub record_fault : ℕ → List Target → ℕ → ℕ → MoveRecord → Option MountFault
+record_fault n ts nth i r =
+    cond (fits_alone n (length ts) r && nat_le nth 64)
+    (cond (good_run n (run ts r)) (cond (total (run ts r) == 1000) None (Some (Weights i))) (Some (Record i)))
+    (Some (Record i))
 
 abbrev pub row_fault : ℕ → List MoveRecord → List Target → ℕ → Option MountFault
-row_fault n rs ts i =
-    cond (fits_alone n (length ts) (row rs i) && few_enough rs i (row rs i))
-    (cond (good_run n (run ts (row rs i))) (cond (total (run ts (row rs i)) == 1000) None (Some (Weights i))) (Some (Record i)))
-    (Some (Record i))
+row_fault n rs ts i = record_fault n ts (length (asked (row rs i).state (row rs i).action (take (i + 1) rs))) i (row rs i)
 
 -- the first fault among the records below a place
 abbrev pub first_fault : ℕ → List MoveRecord → List Target → ℕ → Option MountFault

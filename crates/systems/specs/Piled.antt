@@ -10,8 +10,14 @@ use Rattle.std.proofs.ByRecursion.{All-get_or}
 use Rattle.systems.specs.declared.system.Target.{Target}
 use Rattle.systems.specs.Meaning.{Meaning, Move, Ruled, Good, point}
 use Rattle.systems.specs.Piles.{cross, over, pair, moves_over, pile_moves}
-use Rattle.systems.specs.Fitted.{both}
 use Rattle.systems.specs.Cross.{length_cross, get_or_cross}
+
+-- both of them, one over the other, if there are both
+abbrev pub both : ℕ → Option Target → Option Target → Option Target
+both k (Some x) (Some y) = Some (over k x y)
+both k (Some x) None = None
+both k None (Some y) = None
+both k None None = None
 
 pub both_none : (k : ℕ) (o : Option Target) → both k None o ≡ None
 both_none k (Some y) = refl

@@ -1,16 +1,15 @@
 -- A pile of two systems that keep the rules keeps them.
-use Rattle.std.specs.Prelude.{◌≡◌, ℕ, ◌+◌, ◌*◌, ◌/◌, ◌%◌, ◌<◌, ◌≤◌, Bool, true, false, ◌&&◌, ◌⊎◌, List, [], map, length, ◌==◌, refl}
+use Rattle.std.specs.Prelude.{◌≡◌, ℕ, ◌+◌, ◌*◌, ◌/◌, ◌%◌, ◌<◌, ◌≤◌, Bool, true, false, ◌⊎◌, List, [], map, length, refl}
 use Rattle.std.proofs.Common.{sym, ap₂, subst, ◌∙◌, inl, inr, arith, mul-le-mul}
 use Rattle.std.proofs.Math.Nat.{one-le-mul}
 use Rattle.std.proofs.Math.Arith.{digits_lt}
 use Rattle.std.specs.List.{AllByRecursion}
-use Rattle.std.proofs.lemmas.Bool.{cases_lt, cases_Bool, cond-true, cond-false, and_parts, eqb-true}
+use Rattle.std.proofs.lemmas.Bool.{cases_lt, cases_Bool}
 use Rattle.std.proofs.lemmas.Nat.{div_below, mod_below}
 use Rattle.std.proofs.ByRecursion.{All-append, All-map, All-weaker}
 use Rattle.systems.specs.declared.system.Target.{Target}
-use Rattle.systems.specs.Meaning.{Meaning, Move, Ruled, Sound, Between, Good, Aimed, point}
+use Rattle.systems.specs.Meaning.{Meaning, Move, Ruled, Good, Aimed, point}
 use Rattle.systems.specs.Piles.{over, pair, moves_over, pile_moves, pile}
-use Rattle.systems.specs.Fitted.{fitted, agrees}
 use Rattle.systems.specs.Cross.{length_cross, all_cross, sum_cross}
 use Rattle.systems.specs.Piled.{inside_moves, outside_moves, shared_moves, apart_moves, shared_count, apart_count, nil_cross}
 
@@ -99,47 +98,3 @@ module _ (A : ℕ → Bool) (U L : Meaning) (su : Ruled U) (sl : Ruled L) where
     few = λ k a. by_range (λ ms. length ms ≤ U.breadth * L.breadth) k a (λ _. few_moves (k / L.states) (k % L.states) a) (omega arith);
     each = λ k a. by_range (AllByRecursion (Good (U.states * L.states) (U.mass * L.mass) (U.breadth * L.breadth))) k a (λ h. good_moves (k / L.states) (k % L.states) a (upper_below k h) (lower_below k)) tt;
   }
-
--- a fact of the moves of a fitted meaning
-fitted_by : (n m b : ℕ) (S : Meaning) (P : List Move → Type 0) (k a : ℕ) → (agrees n m b S ≡ true → P (S.moves k a)) → P [] → P ((fitted n m b S).moves k a)
-fitted_by n m b S P k a yes' no' = go (cases_Bool (agrees n m b S))
-  where
-    go : (agrees n m b S ≡ true) ⊎ (agrees n m b S ≡ false) → P ((fitted n m b S).moves k a)
-    go (inl e) = subst P (sym (cond-true (agrees n m b S) (S.moves k a) [] e)) (yes' e)
-    go (inr e) = subst P (sym (cond-false (agrees n m b S) (S.moves k a) [] e)) no'
-
--- the three numbers, where they agree
-pub record Same (n m b : ℕ) (S : Meaning) : Type 0 where
-  pub states_same : S.states ≡ n
-  pub mass_same : S.mass ≡ m
-  pub breadth_same : S.breadth ≡ b
-
-pub same_numbers : (n m b : ℕ) (S : Meaning) → agrees n m b S ≡ true → Same n m b S
-same_numbers n m b S e =
-    let p = and_parts (S.states == n) (S.mass == m && S.breadth == b) e in
-    let q = and_parts (S.mass == m) (S.breadth == b) p.1 in
-    record { states_same = eqb-true S.states n p.0; mass_same = eqb-true S.mass m q.0; breadth_same = eqb-true S.breadth b q.1 }
-
-pub ruled_fitted : (n m b : ℕ) (S : Meaning) → 1 ≤ n → 1 ≤ m → 2 ≤ b → (agrees n m b S ≡ true → Ruled S) → Ruled (fitted n m b S)
-ruled_fitted n m b S n1 m1 b1 s = record {
-  states_low = n1;
-  mass_low = m1;
-  breadth_low = b1;
-  past_states = λ k a h. fitted_by n m b S (λ ms. ms ≡ []) k a (λ e. (s e).past_states k a (omega (arith, (same_numbers n m b S e).states_same))) refl;
-  past_actions = λ k a h. fitted_by n m b S (λ ms. ms ≡ []) k a (λ e. (s e).past_actions k a h) refl;
-  few = λ k a. fitted_by n m b S (λ ms. length ms ≤ b) k a (λ e. subst (λ (x : ℕ). length (S.moves k a) ≤ x) (same_numbers n m b S e).breadth_same ((s e).few k a)) (omega arith);
-  each = λ k a. fitted_by n m b S (AllByRecursion (Good n m b)) k a (λ e. at_numbers e k a) tt;
-}
-  where
-    at_numbers : agrees n m b S ≡ true → (k a : ℕ) → AllByRecursion (Good n m b) (S.moves k a)
-    at_numbers e k a =
-        subst (λ (x : ℕ). AllByRecursion (Good x m b) (S.moves k a)) (same_numbers n m b S e).states_same
-        (subst (λ (y : ℕ). AllByRecursion (Good S.states y b) (S.moves k a)) (same_numbers n m b S e).mass_same
-        (subst (λ (z : ℕ). AllByRecursion (Good S.states S.mass z) (S.moves k a)) (same_numbers n m b S e).breadth_same ((s e).each k a)))
-
--- a fitted pile keeps the rules with no condition on the pile, and the limits where its own numbers do
-pub sound_piled : (A : ℕ → Bool) (n m b : ℕ) (U L : Meaning) → Ruled U → Ruled L → Between 1 1073741824 n → Between 1 1000000000000000 m → Between 2 1073741824 b → Sound (fitted n m b (pile A U L))
-sound_piled A n m b U L ru rl hn hm hb = record {
-  ruled = ruled_fitted n m b (pile A U L) hn.0 hm.0 hb.0 (λ e. ruled_pile A U L ru rl);
-  limited = record { states_high = hn.1; mass_high = hm.1; breadth_high = hb.1 };
-}

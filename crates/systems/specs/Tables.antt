@@ -1,13 +1,9 @@
 -- What two tables mean: move records, each with a run of target records.
-use Rattle.std.specs.Prelude.{ℕ, zero, suc, ◌+◌, ◌*◌, max, Bool, true, ◌&&◌, List, [], ◌∷◌, map, length, take, drop, filter, ◌==◌, nat_le, nat_lt, slice_index_or}
+use Rattle.std.specs.Prelude.{ℕ, zero, suc, ◌+◌, ◌*◌, max, Bool, ◌&&◌, List, map, length, take, drop, filter, ◌==◌, nat_le, nat_lt, slice_index_or}
+use Rattle.std.specs.List.{list_all}
 use Rattle.systems.specs.declared.system.Target.{Target}
 use Rattle.systems.specs.declared.records.MoveRecord.{MoveRecord}
 use Rattle.systems.specs.Meaning.{Meaning, Move}
-
--- whether each element passes a test
-abbrev pub every : {X : Type 0} → (X → Bool) → List X → Bool
-every p [] = true
-every p (x ∷ xs) = p x && every p xs
 
 abbrev pub asks : ℕ → ℕ → MoveRecord → Bool
 asks k a r = r.state == k && r.action == a
@@ -51,7 +47,7 @@ abbrev pub good_target : ℕ → Target → Bool
 good_target n t = nat_lt t.state n && nat_le 1 t.weight
 
 abbrev pub good_run : ℕ → Move → Bool
-good_run n mv = every (good_target n) mv
+good_run n mv = list_all (good_target n) mv
 
 -- the place of a state and an action, where each state has 32
 abbrev pub cell_of : ℕ → ℕ → ℕ

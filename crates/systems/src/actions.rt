@@ -2,7 +2,10 @@
 ghost use Rattle.std.specs.Prelude.{◌≡◌, ℕ, ◌<◌, ◌≤◌, false, ◌||◌, MatchOption, ◌==◌};
 ghost use Rattle.systems.specs.Actions.{has};
 
-// A set of the actions 0 to 31, a bit for each.
+// Each system has the actions 0 to 31.
+pub const ACTIONS: u32 = 32;
+
+// A set of actions, a bit for each.
 #[derive(Clone, Copy, PartialEq, Debug)]
 pub struct ActionSet {
     bits: u32,
@@ -19,7 +22,7 @@ impl ActionSet {
     pub fn with(self, action: u32) -> Option<ActionSet>
         ensures { MatchOption result (31 < action) (λ s. (action ≤ 31) × ((a : ℕ) → has s a ≡ (a == action || has self a))) }
     {
-        if action > 31 {
+        if action >= ACTIONS {
             return None;
         }
         Some(ActionSet {
@@ -30,6 +33,6 @@ impl ActionSet {
     pub fn contains(&self, action: u32) -> bool
         ensures { result ≡ has self.now action }
     {
-        action < 32 && (self.bits >> action) % 2 == 1
+        action < ACTIONS && (self.bits >> action) % 2 == 1
     }
 }

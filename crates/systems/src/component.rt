@@ -1,15 +1,16 @@
 // A component: the moves of two tables, grouped by state and action.
 ghost use Rattle.std.specs.Prelude.{◌≡◌, ℕ, ◌+◌, ◌*◌, ◌<◌, ◌≤◌, true, [], ◌∷◌, ◌++◌, map, length, get_or, replicate, is_ok, IfOk, if◌then◌else◌, None, Ok, Err, vec_items, vec_len, slice_index_or, slice_set};
-ghost use Rattle.systems.specs.Index.{index_meaning, good_index, Listed, Grouped};
+ghost use Rattle.systems.specs.Index.{index_meaning, good_index, listed, Grouped};
 ghost use Rattle.systems.specs.Meaning.{Between};
 ghost use Rattle.systems.specs.Mounts.{mount_fault, blamed};
 ghost use Rattle.systems.specs.Tables.{table_meaning};
 ghost use Rattle.systems.specs.Indexed.{sound_index};
 
+use crate::actions::ACTIONS;
 use crate::fault::MountFault;
 use crate::records::MoveRecord;
 use crate::system::{System, Target};
-use crate::tables::{cell, survey};
+use crate::tables::{MASS, cell, run_of, survey};
 use std::alloc::{AllocError, Global};
 
 // The moves of each state and action are a list of records of their own, so that every question is
@@ -27,26 +28,6 @@ pub struct Component {
     ghost good: { good_index states breadth (map vec_items cells.items) targets.items ≡ true },
 }
 
-// So many empty lists.
-fn blank(heap: Global, n: usize) -> Result<Vec<Vec<MoveRecord>>, AllocError>
-    ensures { IfOk result (λ v. map vec_items v.items ≡ replicate n []) }
-{
-    let mut cells = Vec::new(heap);
-    for _ in 0..n {
-        cells.push(Vec::new(heap))?;
-    }
-    Ok(cells)
-}
-
-// Adds a record to a list.
-fn put(cells: &mut Vec<Vec<MoveRecord>>, at: usize, r: MoveRecord) -> Result<(), AllocError>
-    requires { at < vec_len cells.old }
-    ensures { map vec_items cells.new.items ≡ (if is_ok result then slice_set (map vec_items cells.old.items) at (slice_index_or (map vec_items cells.old.items) at [] ++ r ∷ []) else map vec_items cells.old.items) }
-{
-    cells[at].push(r)?;
-    Ok(())
-}
-
 // The records by state and action, in the order of the table.
 fn grouped(
     heap: Global,
@@ -56,9 +37,10 @@ fn grouped(
     requires { (i : ℕ) → (d : MoveRecord) → i < length rows.now → ((get_or rows.now i d).state < states) × ((get_or rows.now i d).action < 32) }
     ensures { IfOk result (λ v. Grouped states rows.now (length rows.now) (map vec_items v.items)) }
 {
-    let mut cells = blank(heap, states as usize * 32)?;
+    let mut cells = Vec::new(heap);
+    cells.resize_with(states as usize * ACTIONS as usize, || Vec::new(heap))?;
     for r in rows {
-        put(&mut cells, cell(r.state, r.action), *r)?;
+        cells[cell(r.state, r.action)].push(*r)?;
     }
     Ok(cells)
 }
@@ -74,12 +56,8 @@ impl Component {
         ensures { elim result [ Ok v ↦ (mount_fault states moves.now targets.now ≡ None) × (index_meaning v.states v.breadth (map vec_items v.cells.items) v.targets.items ≡ table_meaning states moves.now targets.now) | Err f ↦ mount_fault states moves.now targets.now ≡ blamed f ] }
     {
         let breadth = survey(states, moves, targets)?;
-        let Ok(cells) = grouped(heap, states, moves) else {
-            return Err(MountFault::NoMemory);
-        };
-        let Ok(targets) = Vec::from_slice(heap, targets) else {
-            return Err(MountFault::NoMemory);
-        };
+        let cells = grouped(heap, states, moves)?;
+        let targets = Vec::from_slice(heap, targets)?;
         Ok(Component {
             states,
             breadth,
@@ -90,9 +68,9 @@ impl Component {
 
     // The records of a state and an action.
     fn listed(&self, state: u32, action: u32) -> &[MoveRecord]
-        ensures { Listed self.now.states self.now.breadth self.now.targets.items (map vec_items self.now.cells.items) state action result.now }
+        ensures { result.now ≡ listed self.now.states (map vec_items self.now.cells.items) state action }
     {
-        if state >= self.states || action >= 32 {
+        if state >= self.states || action >= ACTIONS {
             return &[];
         }
         self.cells[cell(state, action)].as_slice()
@@ -109,7 +87,7 @@ impl System for Component {
     }
 
     fn mass(&self) -> u64 {
-        1000
+        MASS
     }
 
     fn breadth(&self) -> u32 {
@@ -121,22 +99,13 @@ impl System for Component {
     }
 
     fn targets(&self, state: u32, action: u32, mv: u32) -> u32 {
-        let rows = self.listed(state, action);
-        if mv as usize >= rows.len() {
-            return 0;
-        }
-        rows[mv as usize].count
+        self.listed(state, action)
+            .get(mv as usize)
+            .map_or(0, |r| r.count)
     }
 
     fn target(&self, state: u32, action: u32, mv: u32, index: u32) -> Option<Target> {
-        let rows = self.listed(state, action);
-        if mv as usize >= rows.len() {
-            return None;
-        }
-        let r = rows[mv as usize];
-        if index >= r.count {
-            return None;
-        }
-        Some(self.targets[(r.first + index) as usize])
+        let r = self.listed(state, action).get(mv as usize)?;
+        run_of(&self.targets, *r).get(index as usize).copied()
     }
 }

@@ -1,4 +1,5 @@
 // The empty system of a shared set: it has one state, and takes part in every shared action.
+ghost use Rattle.std.specs.Prelude.{◌≡◌, ◌&&◌, ◌==◌};
 ghost use Rattle.systems.specs.Actions.{has};
 ghost use Rattle.systems.specs.Kinds.{empty_meaning};
 ghost use Rattle.std.proofs.Common.{rules};
@@ -9,6 +10,15 @@ use crate::system::{System, Target};
 #[derive(Clone, Copy)]
 pub struct Empty {
     pub shared: ActionSet,
+}
+
+impl Empty {
+    // Whether the state takes part in the action.
+    fn takes_part(&self, state: u32, action: u32) -> bool
+        ensures { result ≡ (state == 0 && has self.now.shared action) }
+    {
+        state == 0 && self.shared.contains(action)
+    }
 }
 
 impl System for Empty {
@@ -29,15 +39,11 @@ impl System for Empty {
     }
 
     fn moves(&self, state: u32, action: u32) -> u32 {
-        if state == 0 && self.shared.contains(action) {
-            1
-        } else {
-            0
-        }
+        if self.takes_part(state, action) { 1 } else { 0 }
     }
 
     fn targets(&self, state: u32, action: u32, mv: u32) -> u32 {
-        if state == 0 && self.shared.contains(action) && mv == 0 {
+        if self.takes_part(state, action) && mv == 0 {
             1
         } else {
             0
@@ -45,7 +51,7 @@ impl System for Empty {
     }
 
     fn target(&self, state: u32, action: u32, mv: u32, index: u32) -> Option<Target> {
-        if state == 0 && self.shared.contains(action) && mv == 0 && index == 0 {
+        if self.takes_part(state, action) && mv == 0 && index == 0 {
             Some(Target {
                 state: 0,
                 weight: 1,

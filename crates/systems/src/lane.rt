@@ -1,11 +1,17 @@
 // A lane: jobs are put and taken, and a put may be lost. Its state is the number of waiting jobs.
-ghost use Rattle.std.specs.Prelude.{◌≡◌, ◌<◌, ◌≤◌, true, false, Ok, Err};
+ghost use Rattle.std.specs.Prelude.{◌≡◌, ◌<◌, ◌≤◌, ◌&&◌, ◌==◌, true, false, nat_le, nat_lt, Ok, Err};
 ghost use Rattle.systems.specs.Meaning.{Between};
 ghost use Rattle.systems.specs.Kinds.{lane_meaning, lane_numbers};
-ghost use Rattle.std.proofs.Common.{rules, arith};
+ghost use Rattle.std.proofs.Common.{rules};
 
+use crate::actions::ACTIONS;
 use crate::fault::Fault;
 use crate::system::{System, Target};
+
+const MOST_WAITING: u32 = 60;
+
+// What the weights of each move add up to.
+const MASS: u32 = 1000;
 
 #[derive(Clone, Copy)]
 pub struct Lane {
@@ -25,7 +31,13 @@ impl Lane {
     pub fn new(capacity: u32, put: u32, take: u32, loss: u32) -> Result<Lane, Fault>
         ensures { elim result [ Ok v ↦ (lane_numbers capacity put take loss ≡ true) × (lane_meaning v.capacity v.put v.take v.loss ≡ lane_meaning capacity put take loss) | Err e ↦ (lane_numbers capacity put take loss ≡ false) × (e ≡ Fault.Number) ] }
     {
-        if capacity < 1 || capacity > 60 || put > 31 || take > 31 || put == take || loss > 999 {
+        if capacity < 1
+            || capacity > MOST_WAITING
+            || put >= ACTIONS
+            || take >= ACTIONS
+            || put == take
+            || loss > 999
+        {
             return Err(Fault::Number);
         }
         Ok(Lane {
@@ -35,19 +47,33 @@ impl Lane {
             loss,
         })
     }
+
+    // Whether the action puts a job in the state.
+    fn puts(&self, state: u32, action: u32) -> bool
+        ensures { result ≡ (action == self.now.put && nat_lt state self.now.capacity) }
+    {
+        action == self.put && state < self.capacity
+    }
+
+    // Whether the action takes a job in the state.
+    fn takes(&self, state: u32, action: u32) -> bool
+        ensures { result ≡ (action == self.now.take && (nat_lt 0 state && nat_le state self.now.capacity)) }
+    {
+        action == self.take && 0 < state && state <= self.capacity
+    }
 }
 
 impl System for Lane {
     ghost meaning = { λ v. lane_meaning v.capacity v.put v.take v.loss };
 
-    ghost sound = { first_of (Prim.search rules, Prim.grind (arith, Self.row.coded.inj)) };
+    ghost sound = { Prim.search rules };
 
     fn states(&self) -> u32 {
         self.capacity + 1
     }
 
     fn mass(&self) -> u64 {
-        1000
+        MASS as u64
     }
 
     fn breadth(&self) -> u32 {
@@ -55,9 +81,7 @@ impl System for Lane {
     }
 
     fn moves(&self, state: u32, action: u32) -> u32 {
-        if action == self.put && state < self.capacity {
-            1
-        } else if action == self.take && 0 < state && state <= self.capacity {
+        if self.puts(state, action) || self.takes(state, action) {
             1
         } else {
             0
@@ -67,9 +91,9 @@ impl System for Lane {
     fn targets(&self, state: u32, action: u32, mv: u32) -> u32 {
         if mv != 0 {
             0
-        } else if action == self.put && state < self.capacity {
+        } else if self.puts(state, action) {
             if self.loss > 0 { 2 } else { 1 }
-        } else if action == self.take && 0 < state && state <= self.capacity {
+        } else if self.takes(state, action) {
             1
         } else {
             0
@@ -80,25 +104,23 @@ impl System for Lane {
         if mv != 0 {
             return None;
         }
-        if action == self.put && state < self.capacity {
-            if index == 0 {
-                return Some(Target {
+        if self.puts(state, action) {
+            return match index {
+                0 => Some(Target {
                     state: state + 1,
-                    weight: (1000 - self.loss) as u64,
-                });
-            }
-            if index == 1 && self.loss > 0 {
-                return Some(Target {
+                    weight: (MASS - self.loss) as u64,
+                }),
+                1 if self.loss > 0 => Some(Target {
                     state,
                     weight: self.loss as u64,
-                });
-            }
-            return None;
+                }),
+                _ => None,
+            };
         }
-        if action == self.take && 0 < state && state <= self.capacity && index == 0 {
+        if self.takes(state, action) && index == 0 {
             return Some(Target {
                 state: state - 1,
-                weight: 1000,
+                weight: MASS as u64,
             });
         }
         None

@@ -3,6 +3,7 @@
 
 pub mod actions;
 pub mod any;
+pub mod borrowed;
 pub mod component;
 pub mod empty;
 pub mod fault;

@@ -1,11 +1,11 @@
 // A system over another.
-ghost use Rattle.std.specs.Prelude.{◌≡◌, Some, None, Ok, Err, MatchOption};
+ghost use Rattle.std.specs.Prelude.{◌≡◌, ◌+◌, ◌*◌, ◌≤◌, Some, None, Ok, Err, MatchOption};
 ghost use Rattle.systems.specs.Actions.{has};
-ghost use Rattle.systems.specs.Meaning.{Between};
-ghost use Rattle.systems.specs.Piles.{pile, refusal};
+ghost use Rattle.systems.specs.Meaning.{Limited};
+ghost use Rattle.systems.specs.Piles.{over, pile, refusal};
 ghost use Rattle.systems.specs.PileLaw.{PileLaw};
-ghost use Rattle.systems.specs.Fitted.{fitted, inside, Outside, Split, both, Room};
-ghost use Rattle.systems.specs.PiledSound.{sound_piled};
+ghost use Rattle.systems.specs.Splits.{Split};
+ghost use Rattle.systems.specs.PiledSound.{ruled_pile};
 
 use crate::actions::ActionSet;
 use crate::fault::Fault;
@@ -22,18 +22,16 @@ pub struct Pile<U: System, L: System> {
     upper: U,
     lower: L,
     shared: ActionSet,
+    // Kept, since each question asks for it: asked of the parts anew, nested piles take twice as long.
     states: u32,
-    mass: u64,
-    breadth: u32,
-    ghost counted: { Between 1 1073741824 states },
-    ghost weighed: { Between 1 1000000000000000 mass },
-    ghost broad: { Between 2 1073741824 breadth },
+    ghost counted: { states ≡ (U.System.meaning upper).states * (L.System.meaning lower).states },
+    ghost limited: { Limited (pile (has shared) (U.System.meaning upper) (L.System.meaning lower)) },
 }
 
 impl<U: System, L: System> Pile<U, L> {
     // The pile of two systems, or both of them back with the reason why there is none.
     pub fn new(upper: U, lower: L, shared: ActionSet) -> Result<Pile<U, L>, (U, L, Fault)>
-        ensures { elim result [ Ok p ↦ (refusal (U.System.meaning upper) (L.System.meaning lower) ≡ None) × (fitted p.states p.mass p.breadth (pile (has p.shared) (U.System.meaning p.upper) (L.System.meaning p.lower)) ≡ pile (has shared) (U.System.meaning upper) (L.System.meaning lower)) | Err e ↦ (refusal (U.System.meaning upper) (L.System.meaning lower) ≡ Some e.2) × (e.0 ≡ upper) × (e.1 ≡ lower) ] }
+        ensures { elim result [ Ok p ↦ (refusal (U.System.meaning upper) (L.System.meaning lower) ≡ None) × (pile (has p.shared) (U.System.meaning p.upper) (L.System.meaning p.lower) ≡ pile (has shared) (U.System.meaning upper) (L.System.meaning lower)) × (p.upper ≡ upper) × (p.lower ≡ lower) × (p.shared ≡ shared) | Err e ↦ (refusal (U.System.meaning upper) (L.System.meaning lower) ≡ Some e.2) × (e.0 ≡ upper) × (e.1 ≡ lower) ] }
     {
         let states = upper.states() as u64 * lower.states() as u64;
         let breadth = upper.breadth() as u64 * lower.breadth() as u64;
@@ -49,30 +47,14 @@ impl<U: System, L: System> Pile<U, L> {
             lower,
             shared,
             states: states as u32,
-            mass: mass as u64,
-            breadth: breadth as u32,
         })
-    }
-
-    // Whether there is such a state. No field can say that the three numbers are those of the parts,
-    // since it cannot speak of what a part means: so that is looked at here.
-    fn has(&self, state: u32) -> bool
-        ensures { result ≡ inside self.now.states self.now.mass self.now.breadth (pile (has self.now.shared) (U.System.meaning self.now.upper) (L.System.meaning self.now.lower)) state }
-    {
-        let states = self.upper.states() as u64 * self.lower.states() as u64;
-        let mass = self.upper.mass() as u128 * self.lower.mass() as u128;
-        let breadth = self.upper.breadth() as u64 * self.lower.breadth() as u64;
-        state < self.states
-            && states == self.states as u64
-            && mass == self.mass as u128
-            && breadth == self.breadth as u64
     }
 
     // The states of the two parts in a state of the pile.
     fn split(&self, state: u32) -> Option<(u32, u32)>
-        ensures { MatchOption result (Outside (has self.now.shared) self.now.states self.now.mass self.now.breadth (U.System.meaning self.now.upper) (L.System.meaning self.now.lower) state) (λ p. Split (has self.now.shared) self.now.states self.now.mass self.now.breadth (U.System.meaning self.now.upper) (L.System.meaning self.now.lower) state p.0 p.1) }
+        ensures { MatchOption result ((U.System.meaning self.now.upper).states * (L.System.meaning self.now.lower).states ≤ state) (λ p. Split (has self.now.shared) (U.System.meaning self.now.upper) (L.System.meaning self.now.lower) state p.0 p.1) }
     {
-        if !self.has(state) {
+        if state >= self.states {
             return None;
         }
         let k = self.lower.states();
@@ -80,40 +62,35 @@ impl<U: System, L: System> Pile<U, L> {
     }
 }
 
-// One target over another, where the lower system has `k` states.
-fn joined(k: u32, upper: Option<Target>, lower: Option<Target>) -> Option<Target>
-    requires { Room k upper lower }
-    ensures { result ≡ both k upper lower }
+// An upper target over a lower one, where the lower system has `k` states.
+fn over(k: u32, x: Target, y: Target) -> Target
+    requires { (x.state * k + y.state ≤ 1073741824) × (x.weight * y.weight ≤ 1000000000000000) }
+    ensures { result ≡ over k x y }
 {
-    let Some(x) = upper else {
-        return None;
-    };
-    let Some(y) = lower else {
-        return None;
-    };
-    Some(Target {
+    Target {
         state: x.state * k + y.state,
         weight: x.weight * y.weight,
-    })
+    }
 }
 
 impl<U: System, L: System> System for Pile<U, L> {
-    ghost meaning = { λ p. fitted p.states p.mass p.breadth (pile (has p.shared) (U.System.meaning p.upper) (L.System.meaning p.lower)) };
+    ghost meaning = { λ p. pile (has p.shared) (U.System.meaning p.upper) (L.System.meaning p.lower) };
 
-    ghost sound = { λ x.
-        sound_piled (has x.shared) x.states x.mass x.breadth (U.System.meaning x.upper) (L.System.meaning x.lower)
-        (U.System.sound x.upper).ruled (L.System.sound x.lower).ruled x.counted x.weighed x.broad };
+    ghost sound = { λ p. record {
+      ruled = ruled_pile (has p.shared) (U.System.meaning p.upper) (L.System.meaning p.lower) (U.System.sound p.upper).ruled (L.System.sound p.lower).ruled;
+      limited = p.limited;
+    } };
 
     fn states(&self) -> u32 {
         self.states
     }
 
     fn mass(&self) -> u64 {
-        self.mass
+        self.upper.mass() * self.lower.mass()
     }
 
     fn breadth(&self) -> u32 {
-        self.breadth
+        self.upper.breadth() * self.lower.breadth()
     }
 
     fn moves(&self, state: u32, action: u32) -> u32 {
@@ -150,9 +127,7 @@ impl<U: System, L: System> System for Pile<U, L> {
     }
 
     fn target(&self, state: u32, action: u32, mv: u32, index: u32) -> Option<Target> {
-        let Some((u, v)) = self.split(state) else {
-            return None;
-        };
+        let (u, v) = self.split(state)?;
         let k = self.lower.states();
         if self.shared.contains(action) {
             let low = self.lower.moves(v, action);
@@ -163,26 +138,24 @@ impl<U: System, L: System> System for Pile<U, L> {
             if n == 0 {
                 return None;
             }
-            let x = self.upper.target(u, action, mv / low, index / n);
-            let y = self.lower.target(v, action, mv % low, index % n);
-            return joined(k, x, y);
+            let x = self.upper.target(u, action, mv / low, index / n)?;
+            let y = self.lower.target(v, action, mv % low, index % n)?;
+            return Some(over(k, x, y));
         }
         let up = self.upper.moves(u, action);
         if mv < up {
-            let x = self.upper.target(u, action, mv, index);
+            let x = self.upper.target(u, action, mv, index)?;
             let weight = self.lower.mass();
-            joined(k, x, Some(Target { state: v, weight }))
+            Some(over(k, x, Target { state: v, weight }))
         } else {
-            let y = self.lower.target(v, action, mv - up, index);
+            let y = self.lower.target(v, action, mv - up, index)?;
             let weight = self.upper.mass();
-            joined(k, Some(Target { state: u, weight }), y)
+            Some(over(k, Target { state: u, weight }, y))
         }
     }
 }
 
 // The law of piles.
-pub fn pile_stands() -> u8
+pub fn pile_stands()
     ensures { PileLaw }
-{
-    0
-}
+{}

@@ -1,10 +1,10 @@
 // Whether two tables make a component, and how broad it is.
-ghost use Rattle.std.specs.Prelude.{◌≡◌, ◌+◌, ◌<◌, ◌≤◌, length, take, drop, None, Ok, Err};
+ghost use Rattle.std.specs.Prelude.{◌≡◌, ◌+◌, ◌≤◌, length, take, drop, slice_index, Some, None, Ok, Err};
 ghost use Rattle.systems.specs.Meaning.{total};
 ghost use Rattle.systems.specs.Tables.{cell_of, fits_alone, good_run, longest};
-ghost use Rattle.systems.specs.Mounts.{row_fault, first_fault, mount_fault, blamed};
-ghost use Rattle.systems.specs.Counts.{Reached};
+ghost use Rattle.systems.specs.Mounts.{record_fault, first_fault, mount_fault, blamed};
 
+use crate::actions::ACTIONS;
 use crate::fault::MountFault;
 use crate::records::MoveRecord;
 use crate::system::Target;
@@ -15,43 +15,43 @@ const MOST_RECORDS: usize = 4096;
 
 const MOST_LISTED: u32 = 64;
 
-const CELLS: usize = 2048;
+// What the weights of each move of a component add up to.
+pub const MASS: u64 = 1000;
+
+const CELLS: usize = MOST_STATES as usize * ACTIONS as usize;
 
 // The place of a state and an action among those of all states.
 pub fn cell(state: u32, action: u32) -> usize
     ensures { result ≡ cell_of state action }
 {
-    state as usize * 32 + action as usize
+    state as usize * ACTIONS as usize + action as usize
 }
 
 // Whether a record keeps the rules that ask for no other record.
 fn fits_alone(states: u32, places: usize, r: MoveRecord) -> bool
     ensures { result ≡ fits_alone states places r }
 {
-    if r.state >= states || r.action >= 32 || r.count < 1 || r.count > MOST_LISTED {
-        return false;
-    }
-    r.first as usize + r.count as usize <= places
+    r.state < states
+        && r.action < ACTIONS
+        && r.count >= 1
+        && r.count <= MOST_LISTED
+        && r.first as usize + r.count as usize <= places
 }
 
 // The targets of a record.
-fn run_of(targets: &[Target], r: MoveRecord) -> &[Target]
+pub fn run_of(targets: &[Target], r: MoveRecord) -> &[Target]
     requires { r.first + r.count ≤ length targets.now }
     ensures { result.now ≡ take r.count (drop r.first targets.now) }
 {
-    &targets[r.first as usize..r.first as usize + r.count as usize]
+    let first = r.first as usize;
+    &targets[first..first + r.count as usize]
 }
 
 // Whether each target goes to one of the states, with some weight.
 fn all_good(states: u32, list: &[Target]) -> bool
     ensures { result ≡ good_run states list.now }
 {
-    for t in list {
-        if t.state >= states || t.weight < 1 {
-            return false;
-        }
-    }
-    true
+    list.iter().all(|t| t.state < states && t.weight >= 1)
 }
 
 // The weights added up.
@@ -59,39 +59,37 @@ fn weigh(list: &[Target]) -> u128
     requires { length list.now ≤ 64 }
     ensures { result ≡ total list.now }
 {
-    let mut sum: u128 = 0;
-    for t in list {
-        sum += t.weight as u128;
-    }
-    sum
+    list.iter().map(|t| t.weight as u128).sum()
 }
 
-// What is wrong with the record at a place, where `earlier` counts the records before it.
-fn fault_at(
+// Which one of its state and action the record is, counted from 1, or what is wrong with it, where
+// `earlier` counts the records before it.
+fn ordinal(
     states: u32,
-    rows: &[MoveRecord],
     targets: &[Target],
     earlier: &[u8],
     i: u32,
-) -> Option<MountFault>
-    requires { Reached states rows.now i earlier.now }
-    ensures { result ≡ row_fault states rows.now targets.now i }
+    r: MoveRecord,
+) -> Result<u8, MountFault>
+    requires bound { states ≤ 64 }
+    requires cells { length earlier.now ≡ 2048 }
+    ensures { elim result [ Ok nth ↦ (record_fault states targets.now (slice_index earlier.now (cell_of r.state r.action) + 1) i r ≡ None) × (nth ≡ slice_index earlier.now (cell_of r.state r.action) + 1) | Err f ↦ record_fault states targets.now (slice_index earlier.now (cell_of r.state r.action) + 1) i r ≡ Some f ] }
 {
-    let r = rows[i as usize];
     if !fits_alone(states, targets.len(), r) {
-        return Some(MountFault::Record(i));
+        return Err(MountFault::Record(i));
     }
-    if earlier[cell(r.state, r.action)] as u32 >= MOST_LISTED {
-        return Some(MountFault::Record(i));
+    let before = earlier[cell(r.state, r.action)];
+    if before as u32 >= MOST_LISTED {
+        return Err(MountFault::Record(i));
     }
     let list = run_of(targets, r);
     if !all_good(states, list) {
-        return Some(MountFault::Record(i));
+        return Err(MountFault::Record(i));
     }
-    if weigh(list) != 1000 {
-        return Some(MountFault::Weights(i));
+    if weigh(list) != MASS as u128 {
+        return Err(MountFault::Weights(i));
     }
-    None
+    Ok(before + 1)
 }
 
 // The length of the longest list of moves or targets, and at least 2; or what is wrong with the
@@ -103,16 +101,10 @@ fn walk(states: u32, rows: &[MoveRecord], targets: &[Target]) -> Result<u32, Mou
 {
     let mut earlier = [0u8; CELLS];
     let mut breadth: u32 = 2;
-    let count = rows.len() as u32;
-    for i in 0..count {
-        if let Some(f) = fault_at(states, rows, targets, &earlier, i) {
-            return Err(f);
-        }
-        let r = rows[i as usize];
-        let c = cell(r.state, r.action);
-        let met = earlier[c] + 1;
-        earlier[c] = met;
-        breadth = breadth.max(r.count).max(met as u32);
+    for (i, r) in rows.iter().enumerate() {
+        let nth = ordinal(states, targets, &earlier, i as u32, *r)?;
+        earlier[cell(r.state, r.action)] = nth;
+        breadth = breadth.max(r.count).max(nth as u32);
     }
     Ok(breadth)
 }

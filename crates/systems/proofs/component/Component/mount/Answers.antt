@@ -18,17 +18,17 @@ invariant_of-result c =
     let n = c.args.states in
     let rs = c.args.moves.now in
     let ts = c.args.targets.now in
-    let cells = map vec_items (vec_items c.in-Ok.cells) in
+    let cells = map vec_items (vec_items c.in_ok-cells.cells) in
     let t = right_tables n rs ts c.in_ok-breadth.ensures.0 in
     let e = c.in_ok-breadth.ensures.1 in
-    let own = c.in-Ok-from_slice.ensures.items in
-    let g = c.in-Ok.ensures in
+    let own = c.in_ok-targets.ensures.items in
+    let g = c.in_ok-cells.ensures in
     let b1 = longest_low rs (length rs) in
     let b2 = longest_high n rs ts t.records (length rs) (omega arith) in
     record {
       counted = t.states;
       broad = (omega (arith, e, b1), omega (arith, e, b2));
-      covered = sym (length-map (vec_items c.in-Ok.cells) vec_items) ∙ g.size;
+      covered = sym (length-map (vec_items c.in_ok-cells.cells) vec_items) ∙ g.size;
       short = omega (arith, ap length own, t.short);
       good =
           subst (λ (xs : List Target). good_index n c.in_ok-breadth.breadth cells xs ≡ true) (sym own)
@@ -40,10 +40,10 @@ returns c =
     let n = c.args.states in
     let rs = c.args.moves.now in
     let ts = c.args.targets.now in
-    let cells = map vec_items (vec_items c.in-Ok.cells) in
+    let cells = map vec_items (vec_items c.in_ok-cells.cells) in
     let ok = c.in_ok-breadth.ensures.0 in (
       ok,
-      ap (index_meaning n c.in_ok-breadth.breadth cells) c.in-Ok-from_slice.ensures.items
+      ap (index_meaning n c.in_ok-breadth.breadth cells) c.in_ok-targets.ensures.items
           ∙ ap (λ (b : ℕ). index_meaning n b cells ts) c.in_ok-breadth.ensures.1
-          ∙ same_meaning n rs ts cells (right_tables n rs ts ok).records c.in-Ok.ensures,
+          ∙ same_meaning n rs ts cells (right_tables n rs ts ok).records c.in_ok-cells.ensures,
     )

@@ -1,10 +1,12 @@
 use Rattle.std.proofs.Common.{◌/◌, ◌%◌, List, [], length, get_or, sym, ap, arith}
 use Rattle.systems.specs.Meaning.{Move}
-use Rattle.systems.proofs.PiledCode.{moves_outside, no_move, targets_shared, targets_upper, targets_lower, short-shared}
+use Rattle.systems.specs.Actions.{has}
+use Rattle.systems.specs.Piled.{outside_moves}
+use Rattle.systems.proofs.PiledCode.{no_move, targets_shared, targets_upper, targets_lower, short-shared}
 use Rattle.systems.proofs.pile.PileSystem.targets.Goals as goal
 
 pub returns-in_default : goal.returns-in_default
-returns-in_default g c = sym (ap (λ (ms : List Move). length (get_or ms c.args.mv [])) (moves_outside c.in_default.ensures c.args.action))
+returns-in_default g c = sym (ap (λ (ms : List Move). length (get_or ms c.args.mv [])) (outside_moves (has c.args.self.now.shared) (g.U.System.meaning c.args.self.now.upper) (g.L.System.meaning c.args.self.now.lower) c.args.state c.args.action c.in_default.ensures))
 
 pub returns-then-low-eq0 : goal.returns-then-low-eq0
 returns-then-low-eq0 g c = sym (ap length (no_move c.in-Some.ensures c.args.action c.args.mv c.if-contains.ensures c.moves-low.ensures c.if-low-eq0.true))
