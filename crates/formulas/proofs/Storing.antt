@@ -91,6 +91,10 @@ put p = same-table p.slots p.fill
 put-counted : {X : Type 0} {t after : Table X} {xs : List X} {n : ℕ} → Puts t xs n after → capped after.fill ≡ raised t.fill (length xs)
 put-counted {t} {after} {xs} p = let e : after.fill ≡ min (t.fill + length xs) 4294967295 = p.fill in grind arith
 
+-- the same node, in another form
+pub put_as : {t after : Table Node} {x y : Node} {n : ℕ} → x ≡ y → Puts t (x ∷ []) n after → Puts t (y ∷ []) n after
+put_as {t} {after} {n = n} e p = subst (λ z. Puts t (z ∷ []) n after) e p
+
 -- a node without entries
 module _ {s : Store} {ns : Table Node} {n : ℕ} where
   plain-counted : {x : Node} → Puts s.nodes (x ∷ []) n ns → Counted s 1 0 0 (record { nodes = ns; terms = s.terms; alternatives = s.alternatives })

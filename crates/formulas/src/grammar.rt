@@ -1,9 +1,8 @@
 // Terms, as they are written to the three tables: each node when its term closes, and its terms or alternatives with it.
 // `room` more parentheses may open.
 ghost use Rattle.std.specs.Prelude.{◌≡◌, [], ◌∷◌};
-ghost use Rattle.formulas.specs.Layout.{constant_node};
 ghost use Rattle.formulas.specs.Lines.{Sort.state, Sort.dist};
-ghost use Rattle.formulas.specs.Productions.{a_term, inside, pair, negation, diamond as a_diamond, standing, a_sum, threshold as a_threshold, a_quantity, sum_inside, a_product, one_product, products as products_from, an_element};
+ghost use Rattle.formulas.specs.Productions.{sort_of, a_term, inside, pair, negation, diamond as a_diamond, standing, a_sum, threshold as a_threshold, a_quantity, sum_inside, a_product, one_product, products as products_from, an_element};
 ghost use Rattle.formulas.specs.Append.{upto, Puts};
 ghost use Rattle.formulas.specs.Stores.{SameTables, Parses, Wrote, Factored, Summed};
 
@@ -11,6 +10,7 @@ use crate::append::AppendList;
 use crate::fault::GrammarFault;
 use crate::lexer::{Start, another, expect, number, start_prob, start_sum, start_term};
 use crate::node::{DistNode, Fills, Node, Run, StateNode, Term};
+use crate::sort::Sort;
 use crate::summands::Summands;
 use crate::token::{Lexeme, Token};
 use crate::words::Words;
@@ -18,26 +18,6 @@ use crate::words::Words;
 const MOST_ACTION: u64 = 31;
 // The largest threshold, and the largest sum of coefficients.
 const THOUSAND: u64 = 1000;
-
-fn state_constant(yes: bool) -> Node
-    ensures { result ≡ constant_node state yes }
-{
-    if yes {
-        Node::State(StateNode::Yes)
-    } else {
-        Node::State(StateNode::No)
-    }
-}
-
-fn dist_constant(yes: bool) -> Node
-    ensures { result ≡ constant_node dist yes }
-{
-    if yes {
-        Node::Dist(DistNode::Yes)
-    } else {
-        Node::Dist(DistNode::No)
-    }
-}
 
 // Puts an entry behind the filled part of a table, and answers its place.
 fn put<T: Drop>(slots: &mut [T], fill: &mut u32, x: T) -> u32
@@ -78,7 +58,7 @@ impl Reader<'_, '_> {
         ensures took { Parses 1 (a_term room state) (Wrote state) self.old result self.new }
     {
         match start_term(&mut self.words, room)? {
-            Start::Constant(yes) => Ok(put(self.nodes, &mut self.fills.nodes, state_constant(yes))),
+            Start::Constant(yes) => Ok(put(self.nodes, &mut self.fills.nodes, Sort::State.constant(yes))),
             Start::Inside(head) => self.state_inside(room - 1, head),
         }
     }
@@ -90,41 +70,12 @@ impl Reader<'_, '_> {
         ensures took { Parses 1 (inside room state head) (Wrote state) self.old result self.new }
     {
         match head.token {
-            Token::And => self.state_pair(room),
-            Token::Not => self.state_negation(room),
+            Token::And => self.pair(Sort::State, room),
+            Token::Not => self.negation(Sort::State, room),
             Token::Dia => self.diamond(room),
             Token::Here => self.here(room),
             _ => Err(GrammarFault::Misplaced(head.place)),
         }
-    }
-
-    #[cycle(readers)]
-    fn state_pair(&mut self, room: u32) -> Result<u32, GrammarFault>
-        ensures lent { SameTables self.old self.new }
-        ensures took { Parses 1 (pair room state) (Wrote state) self.old result self.new }
-    {
-        let a = self.state_term(room)?;
-        let b = self.state_term(room)?;
-        expect(&mut self.words, Token::Close)?;
-        Ok(put(
-            self.nodes,
-            &mut self.fills.nodes,
-            Node::State(StateNode::And(a, b)),
-        ))
-    }
-
-    #[cycle(readers)]
-    fn state_negation(&mut self, room: u32) -> Result<u32, GrammarFault>
-        ensures lent { SameTables self.old self.new }
-        ensures took { Parses 1 (negation room state) (Wrote state) self.old result self.new }
-    {
-        let a = self.state_term(room)?;
-        expect(&mut self.words, Token::Close)?;
-        Ok(put(
-            self.nodes,
-            &mut self.fills.nodes,
-            Node::State(StateNode::Not(a)),
-        ))
     }
 
     #[cycle(readers)]
@@ -174,7 +125,7 @@ impl Reader<'_, '_> {
         ensures took { Parses 1 (a_term room dist) (Wrote dist) self.old result self.new }
     {
         match start_term(&mut self.words, room)? {
-            Start::Constant(yes) => Ok(put(self.nodes, &mut self.fills.nodes, dist_constant(yes))),
+            Start::Constant(yes) => Ok(put(self.nodes, &mut self.fills.nodes, Sort::Dist.constant(yes))),
             Start::Inside(head) => self.dist_inside(room - 1, head),
         }
     }
@@ -186,40 +137,44 @@ impl Reader<'_, '_> {
         ensures took { Parses 1 (inside room dist head) (Wrote dist) self.old result self.new }
     {
         match head.token {
-            Token::And => self.dist_pair(room),
-            Token::Not => self.dist_negation(room),
+            Token::And => self.pair(Sort::Dist, room),
+            Token::Not => self.negation(Sort::Dist, room),
             Token::AtLeast => self.at_least(room),
             _ => Err(GrammarFault::Misplaced(head.place)),
         }
     }
 
+    // A term of a sort: answers the number of its node.
     #[cycle(readers)]
-    fn dist_pair(&mut self, room: u32) -> Result<u32, GrammarFault>
+    fn term(&mut self, sort: Sort, room: u32) -> Result<u32, GrammarFault>
         ensures lent { SameTables self.old self.new }
-        ensures took { Parses 1 (pair room dist) (Wrote dist) self.old result self.new }
+        ensures took { Parses 1 (a_term room (sort_of sort)) (Wrote (sort_of sort)) self.old result self.new }
     {
-        let a = self.dist_term(room)?;
-        let b = self.dist_term(room)?;
-        expect(&mut self.words, Token::Close)?;
-        Ok(put(
-            self.nodes,
-            &mut self.fills.nodes,
-            Node::Dist(DistNode::And(a, b)),
-        ))
+        match sort {
+            Sort::State => self.state_term(room),
+            Sort::Dist => self.dist_term(room),
+        }
     }
 
     #[cycle(readers)]
-    fn dist_negation(&mut self, room: u32) -> Result<u32, GrammarFault>
+    fn pair(&mut self, sort: Sort, room: u32) -> Result<u32, GrammarFault>
         ensures lent { SameTables self.old self.new }
-        ensures took { Parses 1 (negation room dist) (Wrote dist) self.old result self.new }
+        ensures took { Parses 1 (pair room (sort_of sort)) (Wrote (sort_of sort)) self.old result self.new }
     {
-        let a = self.dist_term(room)?;
+        let a = self.term(sort, room)?;
+        let b = self.term(sort, room)?;
         expect(&mut self.words, Token::Close)?;
-        Ok(put(
-            self.nodes,
-            &mut self.fills.nodes,
-            Node::Dist(DistNode::Not(a)),
-        ))
+        Ok(put(self.nodes, &mut self.fills.nodes, sort.both(a, b)))
+    }
+
+    #[cycle(readers)]
+    fn negation(&mut self, sort: Sort, room: u32) -> Result<u32, GrammarFault>
+        ensures lent { SameTables self.old self.new }
+        ensures took { Parses 1 (negation room (sort_of sort)) (Wrote (sort_of sort)) self.old result self.new }
+    {
+        let a = self.term(sort, room)?;
+        expect(&mut self.words, Token::Close)?;
+        Ok(put(self.nodes, &mut self.fills.nodes, sort.non(a)))
     }
 
     #[cycle(readers)]

@@ -1,6 +1,6 @@
 use Rattle.std.proofs.Common.{refl, arith, rules}
 use Rattle.formulas.proofs.Parsing.{term-starts, sum_starts_as, quantity_starts, element_full, element_open, number-within}
-use Rattle.formulas.proofs.Storing.{leaf-wrote, neg-wrote, conj-wrote, dia-wrote, here-wrote, at_least_wrote, none_summed, one_summed}
+use Rattle.formulas.proofs.Storing.{put_as, leaf-wrote, neg-wrote, conj-wrote, dia-wrote, here-wrote, at_least_wrote, none_summed, one_summed}
 use Rattle.formulas.proofs.Summing.{partly_none, partly_end, partly_stopped, partly_refused, partly_more}
 use Rattle.formulas.proofs.Taking.{nothing_read, refused-first, known, as_if, stopped, and_so, and_as, and_then}
 use Rattle.formulas.proofs.grammar.Reader.+readers.Goals as goal
@@ -16,7 +16,7 @@ pub state_term-returns-in-Constant : goal.state_term-returns-in-Constant
 state_term-returns-in-Constant t c =
     record {
       lent = search rules;
-      took = as_if (term-starts _ _) (and_as _ c.in_ok-yes.ensures c.in-Constant.is (nothing_read (leaf-wrote c.state_constant.ensures c.put.ensures)));
+      took = as_if (term-starts _ _) (and_as _ c.in_ok-yes.ensures c.in-Constant.is (nothing_read (leaf-wrote c.constant.ensures c.put.ensures)));
     }
 
 pub state_term-returns-in-Inside : goal.state_term-returns-in-Inside
@@ -26,18 +26,18 @@ state_term-returns-in-Inside t c =
       took = as_if (term-starts _ _) (and_as _ c.in_ok-yes.ensures c.in-Inside.is c.state_inside.ensures.took);
     }
 
-pub state_pair-returns : goal.state_pair-returns
-state_pair-returns t c =
+pub pair-returns : goal.pair-returns
+pair-returns t c =
     record {
       lent = search rules;
-      took = and_then _ c.in_ok-a.ensures.took (λ x v. and_then _ c.in_ok-b.ensures.took (λ y w. and_so _ c.in_ok-expect.ensures (nothing_read (conj-wrote v w c.put.ensures))));
+      took = and_then _ c.in_ok-a.ensures.took (λ x v. and_then _ c.in_ok-b.ensures.took (λ y w. and_so _ c.in_ok-expect.ensures (nothing_read (conj-wrote v w (put_as c.both.ensures c.put.ensures)))));
     }
 
-pub state_negation-returns : goal.state_negation-returns
-state_negation-returns t c =
+pub negation-returns : goal.negation-returns
+negation-returns t c =
     record {
       lent = search rules;
-      took = and_then _ c.in_ok-a.ensures.took (λ x v. and_so _ c.in_ok-expect.ensures (nothing_read (neg-wrote v c.put.ensures)));
+      took = and_then _ c.in_ok-a.ensures.took (λ x v. and_so _ c.in_ok-expect.ensures (nothing_read (neg-wrote v (put_as c.non.ensures c.put.ensures))));
     }
 
 pub dist_term-returns-in_err-yes : goal.dist_term-returns-in_err-yes
@@ -51,7 +51,7 @@ pub dist_term-returns-in-Constant : goal.dist_term-returns-in-Constant
 dist_term-returns-in-Constant t c =
     record {
       lent = search rules;
-      took = as_if (term-starts _ _) (and_as _ c.in_ok-yes.ensures c.in-Constant.is (nothing_read (leaf-wrote c.dist_constant.ensures c.put.ensures)));
+      took = as_if (term-starts _ _) (and_as _ c.in_ok-yes.ensures c.in-Constant.is (nothing_read (leaf-wrote c.constant.ensures c.put.ensures)));
     }
 
 pub dist_term-returns-in-Inside : goal.dist_term-returns-in-Inside
@@ -59,20 +59,6 @@ dist_term-returns-in-Inside t c =
     record {
       lent = search rules;
       took = as_if (term-starts _ _) (and_as _ c.in_ok-yes.ensures c.in-Inside.is c.dist_inside.ensures.took);
-    }
-
-pub dist_pair-returns : goal.dist_pair-returns
-dist_pair-returns t c =
-    record {
-      lent = search rules;
-      took = and_then _ c.in_ok-a.ensures.took (λ x v. and_then _ c.in_ok-b.ensures.took (λ y w. and_so _ c.in_ok-expect.ensures (nothing_read (conj-wrote v w c.put.ensures))));
-    }
-
-pub dist_negation-returns : goal.dist_negation-returns
-dist_negation-returns t c =
-    record {
-      lent = search rules;
-      took = and_then _ c.in_ok-a.ensures.took (λ x v. and_so _ c.in_ok-expect.ensures (nothing_read (neg-wrote v c.put.ensures)));
     }
 
 pub diamond-returns : goal.diamond-returns

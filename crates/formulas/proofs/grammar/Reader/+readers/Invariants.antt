@@ -11,13 +11,7 @@ abbrev pub decreases-diamond : goal.decreases-diamond
 decreases-diamond l = measure l.self.now.words 1
 
 abbrev pub decreases-dist_inside : goal.decreases-dist_inside
-decreases-dist_inside l = measure l.self.now.words 2
-
-abbrev pub decreases-dist_negation : goal.decreases-dist_negation
-decreases-dist_negation l = measure l.self.now.words 1
-
-abbrev pub decreases-dist_pair : goal.decreases-dist_pair
-decreases-dist_pair l = measure l.self.now.words 1
+decreases-dist_inside l = measure l.self.now.words 3
 
 abbrev pub decreases-dist_term : goal.decreases-dist_term
 decreases-dist_term l = measure l.self.now.words 0
@@ -41,13 +35,13 @@ abbrev pub decreases-single : goal.decreases-single
 decreases-single l = measure l.self.now.words 1
 
 abbrev pub decreases-state_inside : goal.decreases-state_inside
-decreases-state_inside l = measure l.self.now.words 2
+decreases-state_inside l = measure l.self.now.words 3
 
-abbrev pub decreases-state_negation : goal.decreases-state_negation
-decreases-state_negation l = measure l.self.now.words 1
+abbrev pub decreases-negation : goal.decreases-negation
+decreases-negation l = measure l.self.now.words 2
 
-abbrev pub decreases-state_pair : goal.decreases-state_pair
-decreases-state_pair l = measure l.self.now.words 1
+abbrev pub decreases-pair : goal.decreases-pair
+decreases-pair l = measure l.self.now.words 2
 
 abbrev pub decreases-state_term : goal.decreases-state_term
 decreases-state_term l = measure l.self.now.words 0
@@ -57,6 +51,9 @@ decreases-sum l = measure l.self.now.words 0
 
 abbrev pub decreases-sum_inside : goal.decreases-sum_inside
 decreases-sum_inside l = measure l.self.now.words 2
+
+abbrev pub decreases-term : goal.decreases-term
+decreases-term l = measure l.self.now.words 1
 
 abbrev pub invariant-several-loop-x : goal.invariant-several-loop-x
 invariant-several-loop-x l =
