@@ -58,7 +58,11 @@ impl Reader<'_, '_> {
         ensures took { Parses 1 (a_term room state) (Wrote state) self.old result self.new }
     {
         match start_term(&mut self.words, room)? {
-            Start::Constant(yes) => Ok(put(self.nodes, &mut self.fills.nodes, Sort::State.constant(yes))),
+            Start::Constant(yes) => Ok(put(
+                self.nodes,
+                &mut self.fills.nodes,
+                Sort::State.constant(yes),
+            )),
             Start::Inside(head) => self.state_inside(room - 1, head),
         }
     }
@@ -125,7 +129,11 @@ impl Reader<'_, '_> {
         ensures took { Parses 1 (a_term room dist) (Wrote dist) self.old result self.new }
     {
         match start_term(&mut self.words, room)? {
-            Start::Constant(yes) => Ok(put(self.nodes, &mut self.fills.nodes, Sort::Dist.constant(yes))),
+            Start::Constant(yes) => Ok(put(
+                self.nodes,
+                &mut self.fills.nodes,
+                Sort::Dist.constant(yes),
+            )),
             Start::Inside(head) => self.dist_inside(room - 1, head),
         }
     }
