@@ -1,14 +1,15 @@
 -- What each kind of term adds to the tables.
 use Rattle.std.proofs.Common.{◌≡◌, ℕ, ◌+◌, ◌<◌, ◌≤◌, min, Bool, List, [], ◌∷◌, ◌++◌, length, take, sym, refl, ap, ◌∙◌, subst, append_assoc, append-nil, add-zero, arith, length-append}
 use Rattle.formulas.specs.declared.node.Node.{Node}
-use Rattle.formulas.specs.declared.node.Node.TheVariants.{State}
+use Rattle.formulas.specs.declared.node.Node.TheVariants.{State, Dist}
 use Rattle.formulas.specs.declared.node.StateNode.TheVariants.{Step}
+use Rattle.formulas.specs.declared.node.DistNode.TheVariants.{Sum}
 use Rattle.formulas.specs.declared.node.Term.{Term}
 use Rattle.formulas.specs.declared.summands.Summands.{Summands}
 use Rattle.formulas.specs.Append.{capped, raised, Table, Puts}
 use Rattle.formulas.specs.Layout.{run, constant_node, both_node, non_node, node_table, term_table, alternative_table}
 use Rattle.formulas.specs.Lines.{Sort, state, dist, Line, both, non, step, sum}
-use Rattle.formulas.specs.Stores.{Store, extended, added, Small, Counted, Wrote, Factored, Summed, PutsMove, PutsHere, PutsSum, term_count, term_counts, step_count, step_counts}
+use Rattle.formulas.specs.Stores.{Store, extended, added, Small, Counted, Wrote, Factored, Summed, term_count, term_counts, step_count, step_counts}
 use Rattle.formulas.specs.Trees.{Tree, leaf, conj, neg, dia, here, at_least, Products, none, product, below, below_products, count, terms, lay, lay_products}
 use Rattle.formulas.proofs.Sizes.{term_table-++, alternative_table-++, node_table-++}
 use Rattle.formulas.proofs.Pasted.{written-++}
@@ -90,6 +91,10 @@ put p = same-table p.slots p.fill
 put-counted : {X : Type 0} {t after : Table X} {xs : List X} {n : ℕ} → Puts t xs n after → capped after.fill ≡ raised t.fill (length xs)
 put-counted {t} {after} {xs} p = let e : after.fill ≡ min (t.fill + length xs) 4294967295 = p.fill in grind arith
 
+-- the same node, in another form
+pub put_as : {t after : Table Node} {x y : Node} {n : ℕ} → x ≡ y → Puts t (x ∷ []) n after → Puts t (y ∷ []) n after
+put_as {t} {after} {n = n} e p = subst (λ z. Puts t (z ∷ []) n after) e p
+
 -- a node without entries
 module _ {s : Store} {ns : Table Node} {n : ℕ} where
   plain-counted : {x : Node} → Puts s.nodes (x ∷ []) n ns → Counted s 1 0 0 (record { nodes = ns; terms = s.terms; alternatives = s.alternatives })
@@ -150,13 +155,13 @@ module _ {σ : Sort} {s m : Store} {x : Tree} {a : ℕ} (w : Wrote σ s m x a) w
 abbrev pub stepped : Store → Table Node → Table ℕ → Store
 stepped m ns alts = record { nodes = ns; terms = m.terms; alternatives = alts }
 
-module _ {s m : Store} {d : Tree} {b : ℕ} (w : Wrote dist s m d b) {ns : Table Node} {alts : Table ℕ} {n : ℕ} where
-  step-counted : {x : Node} → Puts m.alternatives (b ∷ []) m.alternatives.fill alts → Puts m.nodes (x ∷ []) n ns → Counted m 1 0 1 (stepped m ns alts)
+module _ {s m : Store} {d : Tree} {b : ℕ} (w : Wrote dist s m d b) {ns : Table Node} {alts : Table ℕ} {n first : ℕ} where
+  step-counted : {x : Node} → Puts m.alternatives (b ∷ []) first alts → Puts m.nodes (x ∷ []) n ns → Counted m 1 0 1 (stepped m ns alts)
   step-counted q p = record { nodes = put-counted p; terms = grind arith; alternatives = put-counted q }
 
   step-wrote : {x : Node} (t : Tree) (l : ℕ → Line) → below t ≡ below d + 1 → term_count t ≡ term_count d → step_count t ≡ step_count d + 1 →
       lay state s.nodes.fill t ≡ lay dist s.nodes.fill d ++ (l (s.nodes.fill + below d) ∷ []) →
-      Puts m.alternatives (b ∷ []) m.alternatives.fill alts → Puts m.nodes (x ∷ []) n ns →
+      Puts m.alternatives (b ∷ []) first alts → Puts m.nodes (x ∷ []) n ns →
       (Small (stepped m ns alts) → node_table m.terms.fill m.alternatives.fill (l b ∷ []) ≡ x ∷ []) → term_table (l b ∷ []) ≡ [] → alternative_table (l b ∷ []) ≡ b ∷ [] →
       Wrote state s (stepped m ns alts) t n
   step-wrote t l e f g i q p u v z =
@@ -172,17 +177,18 @@ module _ {s m : Store} {d : Tree} {b : ℕ} (w : Wrote dist s m d b) {ns : Table
             ∙ ap (added s) (sym i);
       }
 
-  pub dia-wrote : {action : ℕ} → PutsMove m.nodes m.alternatives action b n ns alts → Wrote state s (stepped m ns alts) (dia action d) n
-  dia-wrote {action} p =
-      step-wrote (dia action d) (λ y. step action (y ∷ []) []) refl refl refl refl p.0 p.1
-      (λ h. let z : alts.fill ≡ m.alternatives.fill + 1 = exact m.alternatives.fill 1 alts.fill (put-counted p.0) h.alternatives in
-      ap (λ k. State (Step action (run m.alternatives.fill 1) (run k 0)) ∷ []) (sym z))
+  pub dia-wrote : {action : ℕ} → Puts m.alternatives (b ∷ []) first alts → Puts m.nodes (State (Step action (run first 1) (run alts.fill 0)) ∷ []) n ns → Wrote state s (stepped m ns alts) (dia action d) n
+  dia-wrote {action} q p =
+      step-wrote (dia action d) (λ y. step action (y ∷ []) []) refl refl refl refl q p
+      (λ h. let z : alts.fill ≡ m.alternatives.fill + 1 = exact m.alternatives.fill 1 alts.fill (put-counted q) h.alternatives in
+      ap (λ k. State (Step action (run m.alternatives.fill 1) (run k 0)) ∷ []) (sym z)
+      ∙ ap (λ k. State (Step action (run k 1) (run alts.fill 0)) ∷ []) (sym q.place))
       refl refl
 
-  pub here-wrote : PutsHere m.nodes m.alternatives b n ns alts → Wrote state s (stepped m ns alts) (here d) n
-  here-wrote p =
-      step-wrote (here d) (λ y. step 0 [] (y ∷ [])) refl refl refl refl p.0 p.1
-      (λ h. ap (λ k. State (Step 0 (run m.alternatives.fill 0) (run k 1)) ∷ []) (add-zero m.alternatives.fill))
+  pub here-wrote : Puts m.alternatives (b ∷ []) first alts → Puts m.nodes (State (Step 0 (run m.alternatives.fill 0) (run first 1)) ∷ []) n ns → Wrote state s (stepped m ns alts) (here d) n
+  here-wrote q p =
+      step-wrote (here d) (λ y. step 0 [] (y ∷ [])) refl refl refl refl q p
+      (λ h. ap (λ k. State (Step 0 (run m.alternatives.fill 0) (run k 1)) ∷ []) (add-zero m.alternatives.fill ∙ sym q.place))
       refl refl
 
 -- products behind products
@@ -268,18 +274,19 @@ one_summed {s} {m} {after} {ds} {xs} {ys} {left} {k} {x} q w lt e f =
     same-term a b = λ j. record { coefficient = a j; node = b j }
 
 -- a sum and its terms
-pub at_least_wrote : {s m : Store} {ks : Products} {xs : Summands} {t n : ℕ} {ns : Table Node} {ts : Table Term} → Summed s m ks xs → PutsSum m.nodes m.terms (take xs.count xs.terms) t n ns ts →
+pub at_least_wrote : {s m : Store} {ks : Products} {xs : Summands} {t n first : ℕ} {ns : Table Node} {ts : Table Term} → Summed s m ks xs →
+    Puts m.terms (take xs.count xs.terms) first ts → Puts m.nodes (Dist (Sum t (run first (length (take xs.count xs.terms)))) ∷ []) n ns →
     Wrote dist s (record { nodes = ns; terms = ts; alternatives = m.alternatives }) (at_least ks t) n
-at_least_wrote {s} {m} {ks} {xs} {t} {n} {ns} {ts} q p =
+at_least_wrote {s} {m} {ks} {xs} {t} {n} {first} {ns} {ts} q puts p =
     let l = take xs.count xs.terms in
     let c : Counted m 1 (count ks) 0 (record { nodes = ns; terms = ts; alternatives = m.alternatives }) =
-    record { nodes = put-counted p.1; terms = put-counted p.0 ∙ ap (raised m.terms.fill) q.many; alternatives = grind arith } in
+    record { nodes = put-counted p; terms = put-counted puts ∙ ap (raised m.terms.fill) q.many; alternatives = grind arith } in
     record {
       counted = counted_as (omega arith) (omega arith) (omega arith) (counted-then q.counted c);
-      number = λ h. let b = small-before c h in omega (arith, p.1.place, exact s.nodes.fill (below_products ks) m.nodes.fill q.counted.nodes b.nodes);
+      number = λ h. let b = small-before c h in omega (arith, p.place, exact s.nodes.fill (below_products ks) m.nodes.fill q.counted.nodes b.nodes);
       laid = λ h.
           let b = small-before c h in
           more_added s m _ _ (sum t l ∷ []) b (q.laid b)
-          (together (put p.1) (put p.0 ∙ ap (extended m.terms) (sym (append-nil l))) (unchanged m.alternatives b.alternatives))
+          (together (put p ∙ ap (λ k. extended m.nodes (Dist (Sum t (run k (length l))) ∷ [])) puts.place) (put puts ∙ ap (extended m.terms) (sym (append-nil l))) (unchanged m.alternatives b.alternatives))
           ∙ ap (λ y. added s (lay_products s.nodes.fill ks ++ (sum t y ∷ []))) (q.found b);
     }

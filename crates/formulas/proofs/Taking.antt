@@ -5,9 +5,9 @@ use Rattle.formulas.specs.declared.words.Words.{Words}
 use Rattle.formulas.specs.Grammar.{Item, items, Out, then}
 use Rattle.formulas.specs.Readers.{Taken, Moved, Takes, Itself}
 
--- the unread bytes and a rank below three, as one number
+-- the unread bytes and a rank below four, as one number
 abbrev pub measure : Words → ℕ → ℕ
-measure w rank = 3 * (length w.text.now - w.pos) + rank
+measure w rank = 4 * (length w.text.now - w.pos) + rank
 
 -- a value without a word
 pub nothing_read : {A X : Type 0} {V : A → X → Type 0} {w : Words} {v : A} {x : X} → V v x → Takes 0 (λ stop ws. Ok (v, ws)) V w (Ok x) w

@@ -24,9 +24,3 @@ module _ (ns : List Node) (ts : List Term) (alts : List ℕ) (m i t a : ℕ) (be
         terms = omega arith;
         alternatives = omega arith;
       }
-
-  pub stop : (d : Node) → i < length ns → false ≡ node_ok ns ts alts m i t a (get_or ns i d) → walk ns ts alts m 0 0 0 ns ≡ false
-  stop d l no_Node = before.whole ∙ at_drop_more (walk ns ts alts m i t a) ns i d l ∙ and_off _ _ no_Node
-
-  pub end : length ns ≤ i → walk ns ts alts m 0 0 0 ns ≡ (eqb t (length ts) && eqb a (length alts))
-  end l = before.whole ∙ at_drop_all (walk ns ts alts m i t a) ns i l

@@ -5,6 +5,7 @@ use Rattle.formulas.specs.declared.draft.Draft.{Draft}
 use Rattle.formulas.specs.declared.fault.GrammarFault.{GrammarFault}
 use Rattle.formulas.specs.declared.fault.ReadFault.TheVariants.{Tables}
 use Rattle.formulas.specs.declared.node.Fills.{Fills}
+use Rattle.formulas.specs.declared.tables.Standing.{Standing}
 use Rattle.formulas.specs.declared.words.Words.{Words}
 use Rattle.formulas.specs.Append.{capped, raised, written}
 use Rattle.formulas.specs.Grammar.{items, parse, finish, lone}
@@ -14,9 +15,9 @@ use Rattle.formulas.specs.Productions.{a_term}
 use Rattle.formulas.specs.Reading.{placed, reading, Reads}
 use Rattle.formulas.specs.Tables.{Slots, takes, fits, over, laid}
 use Rattle.formulas.specs.Readers.{Takes}
-use Rattle.formulas.specs.Stores.{Store, Small, Wrote, term_count, step_count}
+use Rattle.formulas.specs.Stores.{Store, holding, Small, Wrote, term_count, step_count}
 use Rattle.formulas.specs.Trees.{Tree, below, lay}
-use Rattle.formulas.specs.Whole.{holding, empty, Whole, Ends}
+use Rattle.formulas.specs.Whole.{empty, Whole, Ends}
 use Rattle.formulas.proofs.Sizes.{length-node_table, length-lay, length-term_table, length-alternative_table}
 use Rattle.formulas.proofs.Storing.{same-table, together}
 use Rattle.formulas.proofs.Pasted.{written-front}
@@ -25,7 +26,7 @@ pub same_store : {a b : Store} → a.nodes.slots ≡ b.nodes.slots → a.nodes.f
 same_store e f g h i j = together (same-table e f) (same-table g h) (same-table i j)
 
 -- a pass that is refused
-pub whole-refused : (o : Result Tree GrammarFault) (s after : Slots) {f : GrammarFault} (r : Result (Fills × ℕ) GrammarFault) → o ≡ Err f → (is_err r ≡ true) × IsErrAnd r (λ y. y ≡ f) → Whole o s r after
+pub whole-refused : (o : Result Tree GrammarFault) (s after : Slots) {f : GrammarFault} (r : Result Standing GrammarFault) → o ≡ Err f → (is_err r ≡ true) × IsErrAnd r (λ y. y ≡ f) → Whole o s r after
 whole-refused o s after (Ok x) e b = absurd b.1
 whole-refused o s after (Err g) e b = e ∙ ap Err (sym b.1)
 
@@ -45,8 +46,8 @@ module _ {text : List ℕ} (w : Words) (same : w.text.now ≡ text) (start : w.p
     pub parse-stray : {f : GrammarFault} → Ends (items m.text.now m.pos) (Err f) → parse text ≡ Err f
     parse-stray e = parse-lone ∙ e h.took.0
 
-    pub whole-done : {s after : Slots} {f : Fills} → items m.text.now m.pos ≡ [] → s0 ≡ holding empty s → s1 ≡ holding f after → Whole (parse text) s (Ok (f, n)) after
-    whole-done {s} {after} {f} e a b = (
+    pub whole-done : {s after : Slots} {f : Fills} → s0 ≡ holding empty s → s1 ≡ holding f after → items m.text.now m.pos ≡ [] → Whole (parse text) s (Ok (record { fills = f; root = n })) after
+    whole-done {s} {after} {f} a b e = (
       h.took.0,
       parse-lone ∙ ap (lone h.took.0) e,
       subst (λ z. Wrote state z (holding f after) h.took.0 n) a (subst (λ z. Wrote state s0 z h.took.0 n) b h.took.2),
@@ -125,19 +126,19 @@ module _ {t : Tree} {s after : Slots} {f : Fills} {n : ℕ} (w : Wrote state (ho
         λ i. record { nodes = x i; terms = y i; alternatives = z i }
 
 -- the first pass counts
-module _ (text : List ℕ) (s : Slots) {x : Fills × ℕ} {none any : Slots} (first : Whole (parse text) none (Ok x) any) where
-  reads_as : reading text s ≡ cond (fits x.0 s) (Ok first.0) (Err Tables)
+module _ (text : List ℕ) (s : Slots) {x : Standing} {none any : Slots} (first : Whole (parse text) none (Ok x) any) where
+  reads_as : reading text s ≡ cond (fits x.fills s) (Ok first.0) (Err Tables)
   reads_as = ap (placed s) first.1 ∙ ap (λ b. cond b (Ok first.0) (Err Tables)) (sym (fits-counted first.2 s))
 
-  pub read_short : fits x.0 s ≡ false → Reads (reading text s) s (Err Tables) s
-  read_short e = subst (λ o. Reads o s (Err Tables) s) (sym (reads_as ∙ cond-false (fits x.0 s) (Ok first.0) (Err Tables) e)) (refl, refl)
+  pub read_short : fits x.fills s ≡ false → Reads (reading text s) s (Err Tables) s
+  read_short e = subst (λ o. Reads o s (Err Tables) s) (sym (reads_as ∙ cond-false (fits x.fills s) (Ok first.0) (Err Tables) e)) (refl, refl)
 
   -- the second writes
-  pub read_done : {f : Fills} {n : ℕ} {after : Slots} (d : Draft) → fits x.0 s ≡ true → Whole (parse text) s (Ok (f, n)) after → d.fills ≡ f → d.root ≡ n → Reads (reading text s) s (Ok d) after
-  read_done {f} {n} {after} d e second g r =
+  pub read_done : {y : Standing} {after : Slots} (d : Draft) → fits x.fills s ≡ true → Whole (parse text) s (Ok y) after → d.fills ≡ y.fills → d.root ≡ y.root → Reads (reading text s) s (Ok d) after
+  read_done {y} {after} d e second g r =
       let t = second.0 in
       let same : first.0 ≡ t = let a = first.1 in let b = second.1 in cc in
       let fit : fits (fills (lay state 0 t)) s ≡ true = ap (λ v. fits (fills (lay state 0 v)) s) (sym same) ∙ sym (fits-counted first.2 s) ∙ e in
       let w = second.2 in
-      let read : reading text s ≡ Ok t = reads_as ∙ cond-true (fits x.0 s) (Ok first.0) (Err Tables) e ∙ ap Ok same in
+      let read : reading text s ≡ Ok t = reads_as ∙ cond-true (fits x.fills s) (Ok first.0) (Err Tables) e ∙ ap Ok same in
       subst (λ o. Reads o s (Ok d) after) (sym read) (g ∙ counts w fit, r ∙ w.number (small w fit) ∙ zero-add (below t), tables-laid w fit)

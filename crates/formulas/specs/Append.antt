@@ -19,8 +19,12 @@ pub record Table (X : Type 0) : Type 0 where
   pub slots : List X
   pub fill : ℕ
 
+-- a table whose first n places are filled
+abbrev pub upto : {X : Type 0} → List X → ℕ → Table X
+upto xs n = record { slots = xs; fill = n }
+
 abbrev pub table : {X : Type 0} → AppendList X → Table X
-table l = record { slots = l.slots.now; fill = l.fill }
+table l = upto l.slots.now l.fill
 
 -- the entries xs stand behind those of the table, the first of them in the place n
 pub record Puts {X : Type 0} (t : Table X) (xs : List X) (n : ℕ) (after : Table X) : Type 0 where

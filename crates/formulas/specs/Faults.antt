@@ -1,5 +1,5 @@
--- The number, the place and the layer of each refusal of a text.
-use Rattle.std.specs.Prelude.{ℕ, Some, None, Option}
+-- The number, the place, the layer and the meaning of each refusal of a text.
+use Rattle.std.specs.Prelude.{ℕ, List, Some, None, codes, Option}
 use Rattle.formulas.specs.declared.fault.GrammarFault.TheVariants.{Word, Misplaced, OutOfRange, TooMany}
 use Rattle.formulas.specs.declared.fault.ReadFault.{ReadFault}
 use Rattle.formulas.specs.declared.fault.ReadFault.TheVariants.{Text, Tables as TooShort}
@@ -27,3 +27,15 @@ layer (Text (Misplaced p)) = Grammar
 layer (Text (OutOfRange p)) = Grammar
 layer (Text (TooMany p)) = Grammar
 layer TooShort = Tables
+
+abbrev pub meaning : ReadFault → List ℕ
+meaning (Text (Word f)) = codes "the word is none of the language"
+meaning (Text (Misplaced p)) = codes "the word does not fit there, or the text ends early"
+meaning (Text (OutOfRange p)) = codes "the number is outside its range"
+meaning (Text (TooMany p)) = codes "more than 64 parentheses are open, or a sum has more than eight terms"
+meaning TooShort = codes "a table is too short for what has to be written"
+
+abbrev pub layer_name : Layer → List ℕ
+layer_name Words = codes "words"
+layer_name Grammar = codes "grammar"
+layer_name Tables = codes "tables"

@@ -1,9 +1,15 @@
 -- The grammar, production by production: each by how many more parentheses may open, and by where the text ends.
 use Rattle.std.specs.Prelude.{ℕ, ◌-◌, List}
+use Rattle.formulas.specs.declared.sort.Sort as sorts
 use Rattle.formulas.specs.declared.token.Lexeme.{Lexeme}
 use Rattle.formulas.specs.Grammar.{Item, Out, then, number, closed, headed, sum_headed, factor, alone, several, term, sum, quantity, element}
-use Rattle.formulas.specs.Lines.{Sort, dist}
+use Rattle.formulas.specs.Lines.{Sort, state, dist}
 use Rattle.formulas.specs.Trees.{Tree, conj, neg, dia, here, at_least, Products}
+
+-- the sort that a reader was asked for
+abbrev pub sort_of : sorts.Sort → Sort
+sort_of sorts.TheVariants.State = state
+sort_of sorts.TheVariants.Dist = dist
 
 abbrev pub a_term : ℕ → Sort → ℕ → List Item → Out Tree
 a_term room σ stop ws = term stop room σ ws

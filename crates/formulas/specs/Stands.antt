@@ -1,5 +1,6 @@
 -- When tables hold a formula.
 use Rattle.std.specs.Prelude.{ℕ, ◌+◌, ◌-◌, ◌*◌, Bool, true, false, not, ◌&&◌, List, [], ◌∷◌, length, take, ◌==◌, nat_le, nat_lt, slice_index_or}
+use Rattle.std.specs.List.{list_all}
 use Rattle.formulas.specs.declared.node.Node.{Node}
 use Rattle.formulas.specs.declared.node.Node.TheVariants.{State, Dist}
 use Rattle.formulas.specs.declared.node.StateNode.{StateNode}
@@ -41,8 +42,7 @@ abbrev pub run_ok : ℕ → ℕ → Run → Bool
 run_ok len p r = r.first == p && nat_le (p + r.count) len
 
 abbrev pub all_dist : List Node → ℕ → List ℕ → Bool
-all_dist ns i [] = true
-all_dist ns i (d ∷ ds) = below_dist ns i d && all_dist ns i ds
+all_dist ns i ds = list_all (below_dist ns i) ds
 
 abbrev pub term_ok : List Node → ℕ → ℕ → Term → Bool
 term_ok ns i left t = nat_le 1 t.coefficient && (nat_le t.coefficient left && below_state ns i t.node)

@@ -1,15 +1,18 @@
 -- What the term readers do to the three tables that they fill.
-use Rattle.std.specs.Prelude.{◌≡◌, ℕ, ◌+◌, ◌<◌, ◌≤◌, List, [], ◌∷◌, length, take}
+use Rattle.std.specs.Prelude.{◌≡◌, ℕ, ◌+◌, ◌<◌, ◌≤◌, List, [], ◌∷◌, length, take, Result}
 use Rattle.formulas.specs.declared.append.AppendList.{AppendList}
+use Rattle.formulas.specs.declared.fault.GrammarFault.{GrammarFault}
+use Rattle.formulas.specs.declared.grammar.Reader.{Reader}
 use Rattle.formulas.specs.declared.node.Node.{Node}
-use Rattle.formulas.specs.declared.node.Node.TheVariants.{State, Dist}
-use Rattle.formulas.specs.declared.node.StateNode.TheVariants.{Step}
-use Rattle.formulas.specs.declared.node.DistNode.TheVariants.{Sum}
+use Rattle.formulas.specs.declared.node.Fills.{Fills}
 use Rattle.formulas.specs.declared.node.Term.{Term}
 use Rattle.formulas.specs.declared.summands.Summands.{Summands}
-use Rattle.formulas.specs.Append.{capped, raised, written, Table, table, Puts}
-use Rattle.formulas.specs.Layout.{run, node_table, term_table, alternative_table}
+use Rattle.formulas.specs.Append.{capped, raised, written, Table, upto, table}
+use Rattle.formulas.specs.Grammar.{Item, Out}
+use Rattle.formulas.specs.Layout.{node_table, term_table, alternative_table}
 use Rattle.formulas.specs.Lines.{Sort, state, Line}
+use Rattle.formulas.specs.Readers.{Takes}
+use Rattle.formulas.specs.Tables.{Slots, slots}
 use Rattle.formulas.specs.Trees.{Tree, leaf, conj, neg, dia, here, at_least, Products, none, product, below, below_products, count, terms, lay, lay_products}
 
 pub record Store : Type 0 where
@@ -19,6 +22,25 @@ pub record Store : Type 0 where
 
 abbrev pub store : AppendList Node → AppendList Term → AppendList ℕ → Store
 store ns ts alts = record { nodes = table ns; terms = table ts; alternatives = table alts }
+
+-- the tables, filled so far
+abbrev pub holding : Fills → Slots → Store
+holding f s = record { nodes = upto s.nodes f.nodes; terms = upto s.terms f.terms; alternatives = upto s.alternatives f.alternatives }
+
+-- the tables of a reader
+abbrev pub filled : Reader → Store
+filled r = holding r.fills (slots r.nodes.now r.terms.now r.alternatives.now)
+
+-- the readers r and v fill the same three tables
+abbrev pub SameTables : Reader → Reader → Type 0
+SameTables r v =
+    (v.nodes.ghost_name ≡ r.nodes.ghost_name)
+    × (v.terms.ghost_name ≡ r.terms.ghost_name)
+    × (v.alternatives.ghost_name ≡ r.alternatives.ghost_name)
+
+-- the reader r answers x and becomes v, having read what f says, and d bytes at least; V says what that does to the tables
+abbrev pub Parses : {A X : Type 0} → ℕ → (ℕ → List Item → Out A) → (Store → Store → A → X → Type 0) → Reader → Result X GrammarFault → Reader → Type 0
+Parses d f V r x v = Takes d f (V (filled r) (filled v)) r.words x v.words
 
 -- entries behind those of a table
 abbrev pub extended : {X : Type 0} → Table X → List X → Table X
@@ -91,21 +113,3 @@ pub record Summed (s after : Store) (ks : Products) (xs : Summands) : Type 0 whe
   pub few : xs.count ≤ 8
   pub found : Small after → take xs.count xs.terms ≡ terms s.nodes.fill ks
   pub laid : Small after → after ≡ added s (lay_products s.nodes.fill ks)
-
--- a step with one move alternative, part, is put
-abbrev pub PutsMove : Table Node → Table ℕ → ℕ → ℕ → ℕ → Table Node → Table ℕ → Type 0
-PutsMove ns alts action part n nodes alternatives =
-    Puts alts (part ∷ []) alts.fill alternatives
-    × Puts ns (State (Step action (run alts.fill 1) (run alternatives.fill 0)) ∷ []) n nodes
-
--- a step with one here alternative, part, is put
-abbrev pub PutsHere : Table Node → Table ℕ → ℕ → ℕ → Table Node → Table ℕ → Type 0
-PutsHere ns alts part n nodes alternatives =
-    Puts alts (part ∷ []) alts.fill alternatives
-    × Puts ns (State (Step 0 (run alts.fill 0) (run alts.fill 1)) ∷ []) n nodes
-
--- a sum of the terms ks is put
-abbrev pub PutsSum : Table Node → Table Term → List Term → ℕ → ℕ → Table Node → Table Term → Type 0
-PutsSum ns ts ks threshold n nodes terms =
-    Puts ts ks ts.fill terms
-    × Puts ns (Dist (Sum threshold (run ts.fill (length ks))) ∷ []) n nodes

@@ -1,5 +1,5 @@
 -- What the three tables of a formula hold: the formula at their fronts, anything behind it.
-use Rattle.std.specs.Prelude.{◌≡◌, ℕ, Bool, ◌&&◌, List, ◌++◌, length, take, drop, nat_le}
+use Rattle.std.specs.Prelude.{◌≡◌, ℕ, ◌≤◌, Bool, ◌&&◌, List, ◌++◌, length, take, drop, nat_le}
 use Rattle.formulas.specs.declared.node.Fills.{Fills}
 use Rattle.formulas.specs.declared.node.Node.{Node}
 use Rattle.formulas.specs.declared.node.Term.{Term}
@@ -36,6 +36,10 @@ SameLoans t u =
 -- a table takes what is needed of it: no more than it has, and no more than any may use
 abbrev pub takes : ℕ → ℕ → Bool
 takes size need = nat_le need size && nat_le need 1048576
+
+-- no table is used past what any may use
+abbrev pub Few : Fills → Type 0
+Few f = (f.nodes ≤ 1048576) × (f.terms ≤ 1048576) × (f.alternatives ≤ 1048576)
 
 abbrev pub fits : Fills → Slots → Bool
 fits f s =

@@ -1,7 +1,9 @@
 // A formula that has been read and is not opened yet.
-ghost use Rattle.std.specs.Prelude.{◌≡◌, ◌≤◌};
+ghost use Rattle.std.specs.Prelude.{◌≡◌};
+ghost use Rattle.formulas.specs.Tables.{Few};
 
 use crate::node::Fills;
+use crate::tables::Standing;
 
 // How many entries a table may use.
 pub(crate) const MOST_ENTRIES: u32 = 1048576;
@@ -11,16 +13,30 @@ pub(crate) const MOST_ENTRIES: u32 = 1048576;
 pub struct Draft {
     fills: Fills,
     root: u32,
-    ghost few: { (fills.nodes ≤ 1048576) × (fills.terms ≤ 1048576) × (fills.alternatives ≤ 1048576) },
+    ghost few: { Few fills },
 }
 
 impl Draft {
-    pub(crate) fn new(fills: Fills, root: u32) -> Draft
-        requires { (fills.nodes ≤ 1048576) × (fills.terms ≤ 1048576) × (fills.alternatives ≤ 1048576) }
-        ensures fills { result.fills ≡ fills }
-        ensures root { result.root ≡ root }
+    pub(crate) fn new(standing: Standing) -> Draft
+        requires { Few standing.fills }
+        ensures fills { result.fills ≡ standing.fills }
+        ensures root { result.root ≡ standing.root }
     {
-        Draft { fills, root }
+        Draft {
+            fills: standing.fills,
+            root: standing.root,
+        }
+    }
+
+    // Where the formula stands in its tables.
+    pub fn standing(&self) -> Standing
+        ensures fills { result.fills ≡ self.now.fills }
+        ensures root { result.root ≡ self.now.root }
+    {
+        Standing {
+            fills: self.fills,
+            root: self.root,
+        }
     }
 
     // How much of each table the formula uses.

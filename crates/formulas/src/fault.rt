@@ -1,16 +1,19 @@
 // Why a text is refused. Each layer hands on what the layer below it found.
-ghost use Rattle.std.specs.Prelude.{◌≡◌};
-ghost use Rattle.formulas.specs.Faults.{number as number_of, place as place_of, layer as layer_of};
+ghost use Rattle.std.specs.Prelude.{◌≡◌, Some};
+ghost use Rattle.formulas.specs.Faults.{number as number_of, place as place_of, layer as layer_of, meaning, layer_name};
 ghost use Rattle.formulas.specs.declared.fault.GrammarFault.TheVariants.{Word};
 ghost use Rattle.formulas.specs.declared.fault.ReadFault.TheVariants.{Text};
 
+use std::error::Error;
+use std::fmt;
+
 // The word that begins at the place is none of the language.
-#[derive(Clone, Copy)]
+#[derive(Clone, Copy, PartialEq, Debug)]
 pub struct WordFault {
     pub place: usize,
 }
 
-#[derive(Clone, Copy)]
+#[derive(Clone, Copy, PartialEq, Debug)]
 pub enum GrammarFault {
     Word(WordFault),
     // The word does not fit there, or the text ends early.
@@ -21,7 +24,7 @@ pub enum GrammarFault {
     TooMany(usize),
 }
 
-#[derive(Clone, Copy)]
+#[derive(Clone, Copy, PartialEq, Debug)]
 pub enum ReadFault {
     Text(GrammarFault),
     // A table is too short, or the formula too large for any.
@@ -29,7 +32,7 @@ pub enum ReadFault {
 }
 
 // The layer that found the fault.
-#[derive(Clone, Copy)]
+#[derive(Clone, Copy, PartialEq, Debug)]
 pub enum Layer {
     Words,
     Grammar,
@@ -87,5 +90,38 @@ impl ReadFault {
             ReadFault::Text(_) => Layer::Grammar,
             ReadFault::Tables => Layer::Tables,
         }
+    }
+}
+
+// What the refusal means.
+impl fmt::Display for ReadFault {
+    ghost output = { λ f. Some (meaning f) };
+
+    fn fmt<W: fmt::Write>(&self, f: &mut fmt::Formatter<W>) -> fmt::Result {
+        f.write_str(match self {
+            ReadFault::Text(GrammarFault::Word(_)) => "the word is none of the language",
+            ReadFault::Text(GrammarFault::Misplaced(_)) => {
+                "the word does not fit there, or the text ends early"
+            }
+            ReadFault::Text(GrammarFault::OutOfRange(_)) => "the number is outside its range",
+            ReadFault::Text(GrammarFault::TooMany(_)) => {
+                "more than 64 parentheses are open, or a sum has more than eight terms"
+            }
+            ReadFault::Tables => "a table is too short for what has to be written",
+        })
+    }
+}
+
+impl Error for ReadFault {}
+
+impl fmt::Display for Layer {
+    ghost output = { λ l. Some (layer_name l) };
+
+    fn fmt<W: fmt::Write>(&self, f: &mut fmt::Formatter<W>) -> fmt::Result {
+        f.write_str(match self {
+            Layer::Words => "words",
+            Layer::Grammar => "grammar",
+            Layer::Tables => "tables",
+        })
     }
 }

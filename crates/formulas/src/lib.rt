@@ -9,6 +9,7 @@ mod lexer;
 pub mod node;
 pub mod read;
 pub mod refusal;
+mod sort;
 pub mod stands;
 mod summands;
 pub mod tables;

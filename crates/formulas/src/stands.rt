@@ -2,53 +2,23 @@
 ghost use Rattle.std.specs.Prelude.{◌≡◌, ◌*◌, ◌≤◌, true, ◌&&◌, length, take, nat_le};
 ghost use Rattle.formulas.specs.Laws.{TruthLaw, CourseLaw, FormedLaw, InLaw, OfLaw, LayoutLaw, LinesLaw, HeldLaw, LaidLaw};
 ghost use Rattle.formulas.specs.Right.{AllRight};
-ghost use Rattle.formulas.specs.Stands.{state_sort, is_state_node, is_dist_node, below_state, below_dist, run_ok, all_dist, term_ok, terms_ok, step_ok, sum_ok, state_ok, dist_ok, node_ok, terms_of, alternatives_of, stands, formula_in};
+ghost use Rattle.formulas.specs.Stands.{is_state_node, is_dist_node, below_state, below_dist, run_ok, all_dist, term_ok, terms_ok, step_ok, sum_ok, state_ok, dist_ok, node_ok, terms_of, alternatives_of, stands, formula_in};
 
 use crate::node::{DistNode, Fills, Node, Run, StateNode, Term};
 use crate::tables::{Standing, Tables, front};
 
 const LAST_ACTION: u32 = 31;
 
-fn state_sort(node: Node) -> bool
-    ensures { result ≡ state_sort node }
-{
-    match node {
-        Node::State(_) => true,
-        Node::Dist(_) => false,
-    }
-}
-
 fn is_state(nodes: &[Node], i: u32) -> bool
     ensures { result ≡ is_state_node nodes.now i }
 {
-    if (i as usize) < nodes.len() {
-        state_sort(nodes[i as usize])
-    } else {
-        false
-    }
+    matches!(nodes.get(i as usize), Some(Node::State(_)))
 }
 
 fn is_dist(nodes: &[Node], i: u32) -> bool
     ensures { result ≡ is_dist_node nodes.now i }
 {
-    if (i as usize) < nodes.len() {
-        !state_sort(nodes[i as usize])
-    } else {
-        false
-    }
-}
-
-// A part of node `i`: it comes before the node.
-fn below_state(nodes: &[Node], i: usize, j: u32) -> bool
-    ensures { result ≡ below_state nodes.now i j }
-{
-    (j as usize) < i && is_state(nodes, j)
-}
-
-fn below_dist(nodes: &[Node], i: usize, j: u32) -> bool
-    ensures { result ≡ below_dist nodes.now i j }
-{
-    (j as usize) < i && is_dist(nodes, j)
+    matches!(nodes.get(i as usize), Some(Node::Dist(_)))
 }
 
 // A run starts at the first free place of its table and ends within the table.
@@ -59,142 +29,121 @@ fn run_stands(len: usize, free: usize, run: Run) -> bool
     run.first as usize == free && run.count as usize <= len - free
 }
 
-fn all_dist(nodes: &[Node], i: usize, parts: &[u32]) -> bool
-    ensures { result ≡ all_dist nodes.now i parts.now }
-{
-    for j in parts {
-        if !below_dist(nodes, i, *j) {
-            return false;
-        }
-    }
-    true
-}
-
-fn term_stands(nodes: &[Node], i: usize, left: u128, term: Term) -> bool
-    ensures { result ≡ term_ok nodes.now i left term }
-{
-    1 <= term.coefficient && term.coefficient as u128 <= left && below_state(nodes, i, term.node)
-}
-
-fn terms_stand(nodes: &[Node], i: usize, limit: u128, parts: &[Term]) -> bool
-    ensures { result ≡ terms_ok nodes.now i limit parts.now }
-{
-    let mut left = limit;
-    for t in parts {
-        if !term_stands(nodes, i, left, *t) {
-            return false;
-        }
-        left -= t.coefficient as u128;
-    }
-    true
-}
-
-fn step_stands(
-    nodes: &[Node],
-    alternatives: &[u32],
-    i: usize,
-    free: usize,
-    moves: Run,
-    heres: Run,
-) -> bool
-    requires { free ≤ length alternatives.now }
-    ensures { result ≡ step_ok nodes.now alternatives.now i free moves heres }
-{
-    if !run_stands(alternatives.len(), free, moves) {
-        return false;
-    }
-    let middle = free + moves.count as usize;
-    if !run_stands(alternatives.len(), middle, heres) {
-        return false;
-    }
-    all_dist(nodes, i, &alternatives[free..middle + heres.count as usize])
-}
-
-fn state_stands(
-    nodes: &[Node],
-    alternatives: &[u32],
-    i: usize,
-    free: usize,
-    node: StateNode,
-) -> bool
-    requires { free ≤ length alternatives.now }
-    ensures { result ≡ state_ok nodes.now alternatives.now i free node }
-{
-    match node {
-        StateNode::Yes => true,
-        StateNode::No => true,
-        StateNode::And(j, k) => below_state(nodes, i, j) && below_state(nodes, i, k),
-        StateNode::Not(j) => below_state(nodes, i, j),
-        StateNode::Step {
-            action,
-            moves,
-            heres,
-        } => { action <= LAST_ACTION && step_stands(nodes, alternatives, i, free, moves, heres) }
-    }
-}
-
-// What the coefficients of a sum add up to at most, and its threshold is at most.
-fn limit(mass: u64) -> u128
-    ensures { result ≡ 1000 * mass }
-{
-    1000 * mass as u128
-}
-
-fn sum_stands(nodes: &[Node], terms: &[Term], mass: u64, i: usize, free: usize, run: Run) -> bool
-    requires { free ≤ length terms.now }
-    ensures { result ≡ sum_ok nodes.now terms.now mass i free run }
-{
-    if !run_stands(terms.len(), free, run) {
-        return false;
-    }
-    terms_stand(
-        nodes,
-        i,
-        limit(mass),
-        &terms[free..free + run.count as usize],
-    )
-}
-
-fn dist_stands(
-    nodes: &[Node],
-    terms: &[Term],
+// The place of node `i` in its tables, `mass` having been removed: so many terms and alternatives belong to the nodes before it.
+#[derive(Clone, Copy)]
+struct Place<'a> {
+    tables: Tables<'a>,
     mass: u64,
     i: usize,
-    free: usize,
-    node: DistNode,
-) -> bool
-    requires { free ≤ length terms.now }
-    ensures { result ≡ dist_ok nodes.now terms.now mass i free node }
-{
-    match node {
-        DistNode::Yes => true,
-        DistNode::No => true,
-        DistNode::And(j, k) => below_dist(nodes, i, j) && below_dist(nodes, i, k),
-        DistNode::Not(j) => below_dist(nodes, i, j),
-        DistNode::Sum {
-            threshold,
-            terms: run,
-        } => { threshold as u128 <= limit(mass) && sum_stands(nodes, terms, mass, i, free, run) }
-    }
+    terms: usize,
+    alternatives: usize,
+    ghost within: { (terms ≤ length tables.terms.now) × (alternatives ≤ length tables.alternatives.now) },
 }
 
-// Node `i`, where `term` terms and `alternative` alternatives belong to the nodes before it.
-fn node_stands(
-    nodes: &[Node],
-    terms: &[Term],
-    alternatives: &[u32],
-    mass: u64,
-    i: usize,
-    term: usize,
-    alternative: usize,
-    node: Node,
-) -> bool
-    requires { (term ≤ length terms.now) × (alternative ≤ length alternatives.now) }
-    ensures { result ≡ node_ok nodes.now terms.now alternatives.now mass i term alternative node }
-{
-    match node {
-        Node::State(s) => state_stands(nodes, alternatives, i, alternative, s),
-        Node::Dist(d) => dist_stands(nodes, terms, mass, i, term, d),
+impl Place<'_> {
+    // A part of the node: it comes before the node.
+    fn below_state(&self, j: u32) -> bool
+        ensures { result ≡ below_state self.now.tables.nodes.now self.now.i j }
+    {
+        (j as usize) < self.i && is_state(self.tables.nodes, j)
+    }
+
+    fn below_dist(&self, j: u32) -> bool
+        ensures { result ≡ below_dist self.now.tables.nodes.now self.now.i j }
+    {
+        (j as usize) < self.i && is_dist(self.tables.nodes, j)
+    }
+
+    fn all_dist(&self, parts: &[u32]) -> bool
+        ensures { result ≡ all_dist self.now.tables.nodes.now self.now.i parts.now }
+    {
+        parts.iter().all(|j| self.below_dist(*j))
+    }
+
+    fn term(&self, left: u128, term: Term) -> bool
+        ensures { result ≡ term_ok self.now.tables.nodes.now self.now.i left term }
+    {
+        1 <= term.coefficient && term.coefficient as u128 <= left && self.below_state(term.node)
+    }
+
+    fn all_terms(&self, parts: &[Term]) -> bool
+        ensures { result ≡ terms_ok self.now.tables.nodes.now self.now.i (1000 * self.now.mass) parts.now }
+    {
+        let mut left = self.limit();
+        for t in parts {
+            if !self.term(left, *t) {
+                return false;
+            }
+            left -= t.coefficient as u128;
+        }
+        true
+    }
+
+    // What the coefficients of a sum add up to at most, and its threshold is at most.
+    fn limit(&self) -> u128
+        ensures { result ≡ 1000 * self.now.mass }
+    {
+        1000 * self.mass as u128
+    }
+
+    fn step(&self, moves: Run, heres: Run) -> bool
+        ensures { result ≡ step_ok self.now.tables.nodes.now self.now.tables.alternatives.now self.now.i self.now.alternatives moves heres }
+    {
+        let alternatives = self.tables.alternatives;
+        let free = self.alternatives;
+        if !run_stands(alternatives.len(), free, moves) {
+            return false;
+        }
+        let middle = free + moves.count as usize;
+        run_stands(alternatives.len(), middle, heres)
+            && self.all_dist(&alternatives[free..middle + heres.count as usize])
+    }
+
+    fn sum(&self, run: Run) -> bool
+        ensures { result ≡ sum_ok self.now.tables.nodes.now self.now.tables.terms.now self.now.mass self.now.i self.now.terms run }
+    {
+        let free = self.terms;
+        run_stands(self.tables.terms.len(), free, run)
+            && self.all_terms(&self.tables.terms[free..free + run.count as usize])
+    }
+
+    fn state(&self, node: StateNode) -> bool
+        ensures { result ≡ state_ok self.now.tables.nodes.now self.now.tables.alternatives.now self.now.i self.now.alternatives node }
+    {
+        match node {
+            StateNode::Yes => true,
+            StateNode::No => true,
+            StateNode::And(j, k) => self.below_state(j) && self.below_state(k),
+            StateNode::Not(j) => self.below_state(j),
+            StateNode::Step {
+                action,
+                moves,
+                heres,
+            } => { action <= LAST_ACTION && self.step(moves, heres) }
+        }
+    }
+
+    fn dist(&self, node: DistNode) -> bool
+        ensures { result ≡ dist_ok self.now.tables.nodes.now self.now.tables.terms.now self.now.mass self.now.i self.now.terms node }
+    {
+        match node {
+            DistNode::Yes => true,
+            DistNode::No => true,
+            DistNode::And(j, k) => self.below_dist(j) && self.below_dist(k),
+            DistNode::Not(j) => self.below_dist(j),
+            DistNode::Sum { threshold, terms } => {
+                threshold as u128 <= self.limit() && self.sum(terms)
+            }
+        }
+    }
+
+    fn node(&self, node: Node) -> bool
+        ensures { result ≡ node_ok self.now.tables.nodes.now self.now.tables.terms.now self.now.tables.alternatives.now self.now.mass self.now.i self.now.terms self.now.alternatives node }
+    {
+        match node {
+            Node::State(s) => self.state(s),
+            Node::Dist(d) => self.dist(d),
+        }
     }
 }
 
@@ -232,28 +181,25 @@ pub fn formula_stands(tables: Tables, root: u32, mass: u64) -> bool
     ensures value { result ≡ stands tables.entry.nodes.now tables.entry.terms.now tables.entry.alternatives.now root mass }
     ensures right { result ≡ true → AllRight tables.entry.nodes.now tables.entry.terms.now tables.entry.alternatives.now mass }
 {
-    let Tables {
-        nodes,
-        terms,
-        alternatives,
-    } = tables;
-    let mut term = 0;
-    let mut alternative = 0;
-    for i in 0..nodes.len() {
-        let node = nodes[i];
-        if !node_stands(nodes, terms, alternatives, mass, i, term, alternative, node) {
+    let mut terms = 0;
+    let mut alternatives = 0;
+    for (i, node) in tables.nodes.iter().enumerate() {
+        let place = Place {
+            tables,
+            mass,
+            i,
+            terms,
+            alternatives,
+        };
+        if !place.node(*node) {
             return false;
         }
-        term += term_count(node);
-        alternative += alternative_count(node);
+        terms += term_count(*node);
+        alternatives += alternative_count(*node);
     }
-    if term != terms.len() {
-        return false;
-    }
-    if alternative != alternatives.len() {
-        return false;
-    }
-    is_state(nodes, root)
+    terms == tables.terms.len()
+        && alternatives == tables.alternatives.len()
+        && is_state(tables.nodes, root)
 }
 
 fn fills_fit(fills: Fills, tables: Tables) -> bool
@@ -274,40 +220,30 @@ pub fn formula_in(standing: Standing, mass: u64, tables: Tables) -> bool
 }
 
 // The law of truth.
-pub fn truth_stands() -> u8
+pub fn truth_stands()
     ensures { TruthLaw }
-{
-    0
-}
+{}
 
 // The law of truth on lines alone.
-pub fn course_stands() -> u8
+pub fn course_stands()
     ensures { CourseLaw }
-{
-    0
-}
+{}
 
 // The laws of satisfaction: a line holds where it is satisfied, by its kind.
-pub fn satisfaction_stands() -> u8
+pub fn satisfaction_stands()
     ensures formed { FormedLaw }
     ensures states { InLaw }
     ensures moves { OfLaw }
-{
-    0
-}
+{}
 
 // The laws of layout: tables that hold a formula and their lines determine each other.
-pub fn layout_stands() -> u8
+pub fn layout_stands()
     ensures tables { LayoutLaw }
     ensures lines { LinesLaw }
-{
-    0
-}
+{}
 
 // Tables that hold a formula have a well-formed one within its bounds, and the tables of such a formula hold it.
-pub fn tables_stand() -> u8
+pub fn tables_stand()
     ensures held { HeldLaw }
     ensures laid { LaidLaw }
-{
-    0
-}
+{}

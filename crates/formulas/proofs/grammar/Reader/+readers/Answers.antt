@@ -1,9 +1,9 @@
 use Rattle.std.proofs.Common.{refl, arith, rules}
 use Rattle.formulas.proofs.Parsing.{term-starts, sum_starts_as, quantity_starts, element_full, element_open, number-within}
-use Rattle.formulas.proofs.Storing.{leaf-wrote, neg-wrote, conj-wrote, dia-wrote, here-wrote, at_least_wrote, none_summed, one_summed}
+use Rattle.formulas.proofs.Storing.{put_as, leaf-wrote, neg-wrote, conj-wrote, dia-wrote, here-wrote, at_least_wrote, none_summed, one_summed}
 use Rattle.formulas.proofs.Summing.{partly_none, partly_end, partly_stopped, partly_refused, partly_more}
 use Rattle.formulas.proofs.Taking.{nothing_read, refused-first, known, as_if, stopped, and_so, and_as, and_then}
-use Rattle.formulas.proofs.grammar.+readers.Goals as goal
+use Rattle.formulas.proofs.grammar.Reader.+readers.Goals as goal
 
 pub state_term-returns-in_err-yes : goal.state_term-returns-in_err-yes
 state_term-returns-in_err-yes t c =
@@ -16,7 +16,7 @@ pub state_term-returns-in-Constant : goal.state_term-returns-in-Constant
 state_term-returns-in-Constant t c =
     record {
       lent = search rules;
-      took = as_if (term-starts _ _) (and_as _ c.in_ok-yes.ensures c.in-Constant.is (nothing_read (leaf-wrote c.state_constant.ensures c.put.ensures.puts)));
+      took = as_if (term-starts _ _) (and_as _ c.in_ok-yes.ensures c.in-Constant.is (nothing_read (leaf-wrote c.constant.ensures c.put.ensures)));
     }
 
 pub state_term-returns-in-Inside : goal.state_term-returns-in-Inside
@@ -26,18 +26,18 @@ state_term-returns-in-Inside t c =
       took = as_if (term-starts _ _) (and_as _ c.in_ok-yes.ensures c.in-Inside.is c.state_inside.ensures.took);
     }
 
-pub state_pair-returns : goal.state_pair-returns
-state_pair-returns t c =
+pub pair-returns : goal.pair-returns
+pair-returns t c =
     record {
       lent = search rules;
-      took = and_then _ c.in_ok-a.ensures.took (λ x v. and_then _ c.in_ok-b.ensures.took (λ y w. and_so _ c.in_ok-expect.ensures (nothing_read (conj-wrote v w c.put.ensures.puts))));
+      took = and_then _ c.in_ok-a.ensures.took (λ x v. and_then _ c.in_ok-b.ensures.took (λ y w. and_so _ c.in_ok-expect.ensures (nothing_read (conj-wrote v w (put_as c.both.ensures c.put.ensures)))));
     }
 
-pub state_negation-returns : goal.state_negation-returns
-state_negation-returns t c =
+pub negation-returns : goal.negation-returns
+negation-returns t c =
     record {
       lent = search rules;
-      took = and_then _ c.in_ok-a.ensures.took (λ x v. and_so _ c.in_ok-expect.ensures (nothing_read (neg-wrote v c.put.ensures.puts)));
+      took = and_then _ c.in_ok-a.ensures.took (λ x v. and_so _ c.in_ok-expect.ensures (nothing_read (neg-wrote v (put_as c.non.ensures c.put.ensures))));
     }
 
 pub dist_term-returns-in_err-yes : goal.dist_term-returns-in_err-yes
@@ -51,7 +51,7 @@ pub dist_term-returns-in-Constant : goal.dist_term-returns-in-Constant
 dist_term-returns-in-Constant t c =
     record {
       lent = search rules;
-      took = as_if (term-starts _ _) (and_as _ c.in_ok-yes.ensures c.in-Constant.is (nothing_read (leaf-wrote c.dist_constant.ensures c.put.ensures.puts)));
+      took = as_if (term-starts _ _) (and_as _ c.in_ok-yes.ensures c.in-Constant.is (nothing_read (leaf-wrote c.constant.ensures c.put.ensures)));
     }
 
 pub dist_term-returns-in-Inside : goal.dist_term-returns-in-Inside
@@ -61,39 +61,25 @@ dist_term-returns-in-Inside t c =
       took = as_if (term-starts _ _) (and_as _ c.in_ok-yes.ensures c.in-Inside.is c.dist_inside.ensures.took);
     }
 
-pub dist_pair-returns : goal.dist_pair-returns
-dist_pair-returns t c =
-    record {
-      lent = search rules;
-      took = and_then _ c.in_ok-a.ensures.took (λ x v. and_then _ c.in_ok-b.ensures.took (λ y w. and_so _ c.in_ok-expect.ensures (nothing_read (conj-wrote v w c.put.ensures.puts))));
-    }
-
-pub dist_negation-returns : goal.dist_negation-returns
-dist_negation-returns t c =
-    record {
-      lent = search rules;
-      took = and_then _ c.in_ok-a.ensures.took (λ x v. and_so _ c.in_ok-expect.ensures (nothing_read (neg-wrote v c.put.ensures.puts)));
-    }
-
 pub diamond-returns : goal.diamond-returns
 diamond-returns t c =
     record {
       lent = search rules;
-      took = and_so _ c.in_ok-action.ensures (and_then _ c.in_ok-d.ensures.took (λ d w. and_so _ c.in_ok-expect.ensures (nothing_read (dia-wrote w c.put_move.ensures.wrote))));
+      took = and_so _ c.in_ok-action.ensures (and_then _ c.in_ok-d.ensures.took (λ d w. and_so _ c.in_ok-expect.ensures (nothing_read (dia-wrote w c.put-first.ensures c.put.ensures))));
     }
 
 pub here-returns : goal.here-returns
 here-returns t c =
     record {
       lent = search rules;
-      took = and_then _ c.in_ok-d.ensures.took (λ d w. and_so _ c.in_ok-expect.ensures (nothing_read (here-wrote w c.put_here.ensures.wrote)));
+      took = and_then _ c.in_ok-d.ensures.took (λ d w. and_so _ c.in_ok-expect.ensures (nothing_read (here-wrote w c.put-first.ensures c.put.ensures)));
     }
 
 pub at_least-returns : goal.at_least-returns
 at_least-returns t c =
     record {
       lent = search rules;
-      took = and_then _ c.in_ok-summands.ensures.took (λ ks q. and_so _ c.in_ok-threshold.ensures (and_so _ c.in_ok-expect.ensures (nothing_read (at_least_wrote q c.put_sum.ensures.wrote))));
+      took = and_then _ c.in_ok-summands.ensures.took (λ ks q. and_so _ c.in_ok-threshold.ensures (and_so _ c.in_ok-expect.ensures (nothing_read (at_least_wrote q c.put_all-first.ensures c.put.ensures))));
     }
 
 pub sum-returns-in_err-start_sum : goal.sum-returns-in_err-start_sum
@@ -181,28 +167,28 @@ quantity-returns t c =
     }
 
 pub several-loop-x-init : goal.several-loop-x-init
-several-loop-x-init t c = (refl, refl, refl, partly_none c.none-found.ensures refl)
+several-loop-x-init t c = (search rules, partly_none c.none-found.ensures refl)
 
 pub several-loop-x-preserved : goal.several-loop-x-preserved
-several-loop-x-preserved t c = (search rules, search rules, search rules, partly_more c.loop-x.invariant.3 (known c.in_ok-x.ensures c.in-Some.is) c.in_ok-term.ensures.took c.push.ensures.count c.push.ensures.terms refl)
+several-loop-x-preserved t c = (search rules, partly_more c.loop-x.invariant.1 (known c.in_ok-x.ensures c.in-Some.is) c.in_ok-term.ensures.took c.push.ensures.count c.push.ensures.terms refl)
 
 pub several-returns-in_err-x : goal.several-returns-in_err-x
 several-returns-in_err-x t c =
     record {
       lent = search rules;
-      took = partly_stopped c.loop-x.invariant.3 _ c.in_err-x.ensures c.from_residual.ensures;
+      took = partly_stopped c.loop-x.invariant.1 _ c.in_err-x.ensures c.from_residual.ensures;
     }
 
 pub several-returns-in_err-term : goal.several-returns-in_err-term
 several-returns-in_err-term t c =
     record {
       lent = search rules;
-      took = partly_refused c.loop-x.invariant.3 (known c.in_ok-x.ensures c.in-Some.is) _ c.in_err-term.ensures.took c.from_residual-in_err-term.ensures;
+      took = partly_refused c.loop-x.invariant.1 (known c.in_ok-x.ensures c.in-Some.is) _ c.in_err-term.ensures.took c.from_residual-in_err-term.ensures;
     }
 
 pub several-returns : goal.several-returns
 several-returns t c =
     record {
       lent = search rules;
-      took = partly_end c.loop-x.invariant.3 (known c.in_ok-x.ensures c.in_default.is);
+      took = partly_end c.loop-x.invariant.1 (known c.in_ok-x.ensures c.in_default.is);
     }
