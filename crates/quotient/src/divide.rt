@@ -4,8 +4,7 @@ ghost use Rattle.formulas.specs.Tables.{slots, contents};
 ghost use Rattle.quotient.specs.Divisions.{remainder, divided, after as afterwards, placed, whole_remainder, Dividable};
 
 use crate::need::{alternatives_need, has_room, terms_need};
-use crate::plan::{Plan, fill_firsts, fill_offsets, place};
-use crate::write::write;
+use crate::plan::{Division, Plan, fill_firsts, fill_offsets};
 use formulas::node::{Fills, Node, Term};
 use formulas::refusal::Refusal;
 use formulas::stands::{formula_in, layout_stands, tables_stand};
@@ -33,11 +32,11 @@ fn too_heavy<S: System>(removed: u64, system: &S) -> bool
 }
 
 // Writes the quotient of the formula that fills its tables, once all that it takes is counted and fits.
-fn divide_whole<S: System>(
-    used: Tables,
+fn divide_whole<'a, S: System>(
+    used: Tables<'a>,
     root: u32,
     shared: ActionSet,
-    system: &S,
+    system: &'a S,
     nodes: &mut [Node],
     terms: &mut [Term],
     alternatives: &mut [u32],
@@ -68,9 +67,7 @@ fn divide_whole<S: System>(
         return Err(Refusal::Short);
     }
     let plan = Plan {
-        nodes: used.nodes,
-        terms: used.terms,
-        alternatives: used.alternatives,
+        tables: used,
         shared,
         states,
         rows,
@@ -78,7 +75,8 @@ fn divide_whole<S: System>(
         offsets: &offsets,
         firsts: &firsts,
     };
-    write(system, plan, nodes, terms, alternatives);
+    let division = Division { system, plan };
+    division.write(nodes, terms, alternatives);
     let fills = Fills {
         nodes: node_need as u32,
         terms: term_need as u32,
@@ -86,7 +84,7 @@ fn divide_whole<S: System>(
     };
     Ok(Standing {
         fills,
-        root: place(plan, root, 0),
+        root: division.place(root, 0),
     })
 }
 

@@ -51,21 +51,6 @@ write-requires g c =
     let terms = term_count c.args.shared R u c.args.root c.requires c.layout_stands.ensures.tables _ c.terms_need-term_need.ensures in
     let alternatives = alternative-count c.args.shared R u c.args.root c.requires _ c.alternatives_need-alternative_need.ensures in
     record {
-      planned = record {
-        states = c.states-states.ensures;
-        rows = c.fill_firsts-rows.ensures.rows;
-        mass = c.mass.ensures;
-        few = c.requires.few;
-        narrow = c.requires.narrow;
-        few_rows = c.fill_firsts-rows.ensures.small;
-        sampling = record {
-          sampled = c.fill_offsets-node_need.ensures.offsets;
-          blocks = omega (arith, c.if-used-gt-MOST_NODES.false, c.fill_offsets-node_need.auto.offsets);
-          few = omega (arith, (room (length c.args.nodes.now) c.fill_offsets-node_need.result (sym c.if-not-has_room.ensures)).1, c.fill_offsets-node_need.ensures.total);
-        };
-        firsts = c.fill_firsts-rows.ensures.firsts;
-        long = omega (arith, c.requires.few, c.fill_firsts-rows.auto.firsts);
-      };
       fit = λ i n h. record {
         index = i;
         removed = c.requires.removed;
@@ -79,18 +64,27 @@ write-requires g c =
 pub overflow_cast-fills-2 : goal.overflow_cast-fills-2
 overflow_cast-fills-2 g c = omega (arith, (room (length c.args.terms.now) c.terms_need-term_need.result (sym c.if-not-has_room-2.ensures)).1)
 
+pub invariant_of-division : goal.invariant_of-division
+invariant_of-division g c = record {
+  planned = record {
+    states = c.states-states.ensures;
+    rows = c.fill_firsts-rows.ensures.rows;
+    mass = c.mass.ensures;
+    few = c.requires.few;
+    narrow = c.requires.narrow;
+    few_rows = c.fill_firsts-rows.ensures.small;
+    sampling = record {
+      sampled = c.fill_offsets-node_need.ensures.offsets;
+      blocks = omega (arith, c.if-used-gt-MOST_NODES.false, c.fill_offsets-node_need.auto.offsets);
+      few = omega (arith, (room (length c.args.nodes.now) c.fill_offsets-node_need.result (sym c.if-not-has_room.ensures)).1, c.fill_offsets-node_need.ensures.total);
+    };
+    firsts = c.fill_firsts-rows.ensures.firsts;
+    long = omega (arith, c.requires.few, c.fill_firsts-rows.auto.firsts);
+  };
+}
+
 pub place-requires : goal.place-requires
-place-requires g c =
-    let R = g.S.System.meaning c.args.system.now in
-    record {
-      sampling = record {
-        sampled = c.fill_offsets-node_need.ensures.offsets;
-        blocks = omega (arith, c.if-used-gt-MOST_NODES.false, c.fill_offsets-node_need.auto.offsets);
-        few = omega (arith, (room (length c.args.nodes.now) c.fill_offsets-node_need.result (sym c.if-not-has_room.ensures)).1, c.fill_offsets-node_need.ensures.total);
-      };
-      inside = root-inside c.args.shared R c.args.used c.args.root c.requires c.tables_stand.ensures.held;
-      small = omega arith;
-    }
+place-requires g c = record { inside = root-inside c.args.shared (g.S.System.meaning c.args.system.now) c.args.used c.args.root c.requires c.tables_stand.ensures.held; small = omega arith }
 
 pub returns : goal.returns
 returns g c =
