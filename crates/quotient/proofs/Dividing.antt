@@ -1,12 +1,11 @@
 -- What a node of a plan gives, as the program puts it.
-use Rattle.std.proofs.Common.{◌≡◌, ℕ, ◌+◌, ◌-◌, ◌*◌, ◌/◌, ◌%◌, ◌<◌, ◌≤◌, Bool, true, false, cond, ltb, List, [], ◌∷◌, ◌++◌, map, length, get_or, take, drop, Some, None, sum_by, Option, sym, refl, ap, ◌∙◌, ap₂, ⊎_elim, mul-le-mul_right, mul_assoc, arith}
+use Rattle.std.proofs.Common.{◌≡◌, ℕ, ◌+◌, ◌*◌, ◌/◌, ◌%◌, ◌<◌, ◌≤◌, Bool, true, false, cond, List, [], ◌∷◌, ◌++◌, map, length, get_or, take, Some, None, sum_by, Option, sym, refl, ap, ◌∙◌, ap₂, mul-le-mul_right, mul_assoc, arith}
 use mathlib.Core.Path.{fun_ext}
 use Rattle.std.specs.List.{range_with_len, flat_map, AllByRecursion, slice_get}
 use Rattle.std.proofs.lemmas.List.{take_all, take-map, map-append}
 use Rattle.std.proofs.ByRecursion.{All-get_or, All-from_get_or, All-weaker}
 use Rattle.std.proofs.lemmas.Simd.{map-map}
 use Rattle.std.proofs.lemmas.List.Sums.{sum_by-cons, get_or-le-sum_by}
-use Rattle.std.proofs.lemmas.Bool.{cases_lt, cond-true, cond-false, lt-ltb, le-ltb}
 use Rattle.std.proofs.lemmas.Option.{slice_get-get_or}
 use Rattle.systems.specs.declared.system.Target.{Target}
 use Rattle.systems.specs.Actions.{has}
@@ -23,19 +22,15 @@ use Rattle.formulas.specs.declared.node.Term.{Term}
 use Rattle.formulas.specs.Append.{Table}
 use Rattle.formulas.specs.Lines.{Line, step, sum, sort, line, lines, entries}
 use Rattle.quotient.specs.declared.plan.Plan.{Plan}
-use Rattle.quotient.specs.Layings.{appended, stored, lay}
+use Rattle.quotient.specs.declared.write.Step.{Step}
+use Rattle.quotient.specs.declared.write.Sum.{Sum}
+use Rattle.quotient.specs.Layings.{appended, lay}
+use Rattle.quotient.proofs.Laying.{stored}
 use Rattle.quotient.specs.Quotient.{moves_of, rows, row, first_row, move_rows, width, place, new_step, new_term, new_line, new_lines}
-use Rattle.quotient.specs.Plans.{node_width, width_before, plan_nodes, plan_lines, place_in, Planned, moved, Fit, LightTerm, LightTarget, no_target, PlainState, PlainDist, Plain, node_line, node_lines, plan_quotient, sum_at}
+use Rattle.quotient.specs.Plans.{node_width, width_before, plan_nodes, plan_lines, place_in, Planned, moved, Fit, LightTerm, LightTarget, no_target, PlainState, PlainDist, Plain, node_line, node_lines, plan_quotient, sum_at, step_node, sum_node}
 use Rattle.quotient.proofs.Lists.{looked_up}
 use Rattle.quotient.proofs.Places.{rows-within}
 use Rattle.quotient.proofs.Rules.{GoodIn}
-
--- the entries of a run, as a part of the table
-abbrev pub whole : {X : Type 0} → List X → Run → List X
-whole xs r = take (r.first + r.count - r.first) (drop r.first xs)
-
-pub cut : {X : Type 0} (xs : List X) (r : Run) → whole xs r ≡ entries xs r
-cut xs r = ap (λ n. take n (drop r.first xs)) (omega arith)
 
 -- a node that fits and is no step, or no sum, is plain
 pub plain-state : (x : Plan) (n : StateNode) → Fit x (State n) → ((a : ℕ) (ms hs : Run) → n ≡ sn.TheVariants.Step a ms hs → ⊥) → PlainState (length (plan_nodes x)) n
@@ -65,13 +60,13 @@ abbrev pub no-term : Term
 no-term = record { coefficient = 0; node = 0 }
 
 -- the numbers of a sum that fits are small
-module _ (x : Plan) (t : ℕ) (r : Run) (fit : Fit x (Dist (dn.TheVariants.Sum t r))) where
-  pub light-threshold : t * x.mass ≤ 1000000000000000000
-  light-threshold = weighed fit.removed x.mass t fit.light fit.right.low
+module _ (x : Plan) (s : Sum) (fit : Fit x (sum_node s)) where
+  pub light-threshold : s.threshold * x.mass ≤ 1000000000000000000
+  light-threshold = weighed fit.removed x.mass s.threshold fit.light fit.right.low
 
-  pub light-terms : AllByRecursion (LightTerm x) (entries x.terms.now r)
+  pub light-terms : AllByRecursion (LightTerm x) (entries x.tables.terms.now s.terms)
   light-terms =
-      let ks = entries x.terms.now r in
+      let ks = entries x.tables.terms.now s.terms in
       All-from_get_or (LightTerm x) ks no-term (λ j k. record {
         inside = omega (arith, All-get_or (λ u. u.node < fit.index) ks j no-term k fit.right.below, fit.inside);
         light = weighed fit.removed x.mass (get_or ks j no-term).coefficient fit.light (omega (arith, get_or-le-sum_by (λ u. u.coefficient) ks j no-term k, fit.right.light));
@@ -118,10 +113,10 @@ module _ (R : Meaning) (n r : ℕ) (en : n ≡ R.states) (er : r ≡ length (row
 
 module _ (R : Meaning) (x : Plan) (planned : Planned R x) where
   abbrev ts : List Term
-  ts = x.terms.now
+  ts = x.tables.terms.now
 
   abbrev alts : List ℕ
-  alts = x.alternatives.now
+  alts = x.tables.alternatives.now
 
   pub place_is : (d p : ℕ) → place_in x d p ≡ place R (plan_lines x) d p
   place_is d p = place_at R x.states x.rows planned.states planned.rows ts alts (plan_nodes x) d p
@@ -144,52 +139,51 @@ module _ (R : Meaning) (x : Plan) (planned : Planned R x) where
   lay-plain (Dist (dn.TheVariants.Sum t r)) p h ns ms e us ats = absurd h
 
   -- the rows of the moves of p on a, from the first that the plan tells
-  pub rows-from : Ruled R → (p a first : ℕ) → p < R.states → first ≡ cond (ltb a 32) (get_or x.firsts.now (p * 32 + a) 0) 0 → (range_with_len first (length (R.moves p a)) ≡ move_rows R p a) × (first + length (R.moves p a) ≤ 1073741824)
-  rows-from ruled p a first h e =
-      ⊎_elim
-      (λ l.
+  pub rows-from : (p a count : ℕ) → p < R.states → a < 32 → count ≡ length (R.moves p a) → (range_with_len (get_or x.firsts.now (p * 32 + a) 0) count ≡ move_rows R p a) × (get_or x.firsts.now (p * 32 + a) 0 + count ≤ 1073741824)
+  rows-from p a count h l e =
       let inside : p * 32 + a < R.states * 32 = omega arith in
       let state : (p * 32 + a) / 32 ≡ p = omega arith in
       let action : (p * 32 + a) % 32 ≡ a = omega arith in
-      let is : first ≡ first_row R p a = e ∙ cond-true (ltb a 32) (get_or x.firsts.now (p * 32 + a) 0) 0 (lt-ltb a 32 l) ∙ planned.firsts (p * 32 + a) inside ∙ ap₂ (first_row R) state action in
-      (ap (λ n. range_with_len n (length (R.moves p a))) is, omega (arith, is, rows-within R p a h l, planned.rows, planned.few_rows)))
-      (λ l.
+      let is : get_or x.firsts.now (p * 32 + a) 0 ≡ first_row R p a = planned.firsts (p * 32 + a) inside ∙ ap₂ (first_row R) state action in
+      (ap₂ range_with_len is e, omega (arith, is, rows-within R p a h l, planned.rows, planned.few_rows))
+
+  -- past the last action there are none
+  pub rows-past : Ruled R → (p a count : ℕ) → 32 ≤ a → count ≡ length (R.moves p a) → (range_with_len 0 count ≡ move_rows R p a) × (0 + count ≤ 1073741824)
+  rows-past ruled p a count l e =
       let none : length (R.moves p a) ≡ 0 = ap length (ruled.past_actions p a l) in
-      let start : first ≡ 0 = e ∙ cond-false (ltb a 32) (get_or x.firsts.now (p * 32 + a) 0) 0 (le-ltb a 32 l) in
-      (ap (range_with_len first) none ∙ sym (ap (range_with_len (first_row R p a)) none), omega arith))
-      (cases_lt a 32)
+      (ap (range_with_len 0) (e ∙ none) ∙ sym (ap (range_with_len (first_row R p a)) none), omega arith)
 
   -- a step, by the rows of its moves
-  pub step_is : (a p first count : ℕ) (ms hs : Run) (shared : Bool) → shared ≡ has x.shared a → count ≡ length (R.moves p a) → range_with_len first (length (R.moves p a)) ≡ move_rows R p a → node_line R x (State (sn.TheVariants.Step a ms hs)) p ≡ step a (cond shared (cross (place_in x) (entries alts ms) (range_with_len first count)) (map (λ d. place_in x d p) (entries alts ms))) (cond shared (map (λ d. place_in x d p) (entries alts hs)) (cross (place_in x) (entries alts ms) (range_with_len first count) ++ map (λ d. place_in x d p) (entries alts hs)))
+  pub step_is : (s : Step) (p : ℕ) (rows : List ℕ) (shared : Bool) → shared ≡ has x.shared s.action → rows ≡ move_rows R p s.action → node_line R x (step_node s) p ≡ step s.action (cond shared (cross (place_in x) (entries alts s.moves) rows) (map (λ d. place_in x d p) (entries alts s.moves))) (cond shared (map (λ d. place_in x d p) (entries alts s.heres)) (cross (place_in x) (entries alts s.moves) rows ++ map (λ d. place_in x d p) (entries alts s.heres)))
   unfolding new_line
-  step_is a p first count ms hs shared e f g =
-      new_is (has x.shared a)
-      ∙ ap (λ b. line_at b (place R (plan_lines x)) (move_rows R p a)) (sym e)
-      ∙ ap₂ (λ at rs. line_at shared at rs) (sym places_are) (sym g ∙ ap (range_with_len first) (sym f))
+  step_is s p rows shared e f =
+      new_is (has x.shared s.action) ∙ ap (λ b. line_at b (place R (plan_lines x)) (move_rows R p s.action)) (sym e) ∙ ap₂ (λ at rs. line_at shared at rs) (sym places_are) (sym f)
     where
       line_at : Bool → (ℕ → ℕ → ℕ) → List ℕ → Line
-      line_at b at rs = step a (cond b (cross at (entries alts ms) rs) (map (λ d. at d p) (entries alts ms))) (cond b (map (λ d. at d p) (entries alts hs)) (cross at (entries alts ms) rs ++ map (λ d. at d p) (entries alts hs)))
+      line_at b at rs =
+          step s.action (cond b (cross at (entries alts s.moves) rs) (map (λ d. at d p) (entries alts s.moves)))
+          (cond b (map (λ d. at d p) (entries alts s.heres)) (cross at (entries alts s.moves) rs ++ map (λ d. at d p) (entries alts s.heres)))
 
-      new_is : (b : Bool) → new_step b R (plan_lines x) a (entries alts ms) (entries alts hs) p ≡ line_at b (place R (plan_lines x)) (move_rows R p a)
+      new_is : (b : Bool) → new_step b R (plan_lines x) s.action (entries alts s.moves) (entries alts s.heres) p ≡ line_at b (place R (plan_lines x)) (move_rows R p s.action)
       new_is true = refl
       new_is false = refl
 
 -- a sum at all rows: at the points, then at the moves
-module _ (R : Meaning) (x : Plan) (planned : Planned R x) (t : ℕ) (r : Run) where
+module _ (R : Meaning) (x : Plan) (planned : Planned R x) (s : Sum) where
   abbrev at_row : Move → Line
-  at_row = sum_at x t (entries x.terms.now r)
+  at_row = sum_at x s
 
-  sum_is : (mv : Move) → sum (t * R.mass) (cross (new_term R (plan_lines x)) (entries x.terms.now r) mv) ≡ at_row mv
+  sum_is : (mv : Move) → sum (s.threshold * R.mass) (cross (new_term R (plan_lines x)) (entries x.tables.terms.now s.terms) mv) ≡ at_row mv
   sum_is mv =
-      ap₂ (λ m at. sum (t * m) (cross (λ (k : Term) u. record { coefficient = k.coefficient * u.weight; node = at k.node u.state }) (entries x.terms.now r) mv))
+      ap₂ (λ m at. sum (s.threshold * m) (cross (λ (k : Term) u. record { coefficient = k.coefficient * u.weight; node = at k.node u.state }) (entries x.tables.terms.now s.terms) mv))
       (sym planned.mass) (sym (places_are R x planned))
 
-  sum_rows_are : node_lines R x (Dist (dn.TheVariants.Sum t r)) ≡ map at_row (rows R)
+  sum_rows_are : node_lines R x (sum_node s) ≡ map at_row (rows R)
   unfolding new_line
   sum_rows_are =
       ap (λ (f : Move → Line). map (λ k. f (row R k)) (range_with_len 0 (length (rows R)))) (fun_ext sum_is) ∙ looked_up at_row [] (rows R)
 
-  pub sum_lines_are : node_lines R x (Dist (dn.TheVariants.Sum t r)) ≡ map (λ p. at_row (point R p)) (range_with_len 0 R.states) ++ map at_row (flat_map (moves_of R) (range_with_len 0 R.states))
+  pub sum_lines_are : node_lines R x (sum_node s) ≡ map (λ p. at_row (point R p)) (range_with_len 0 R.states) ++ map at_row (flat_map (moves_of R) (range_with_len 0 R.states))
   unfolding rows
   sum_lines_are =
       sum_rows_are
@@ -203,4 +197,4 @@ joined-map f g (x ∷ xs) = ap (λ l. f (g x) ++ l) (joined-map f g xs)
 -- the quotient, node by node
 pub quotient_by_nodes : (R : Meaning) (x : Plan) (i : ℕ) → length (plan_nodes x) ≤ i → flat_map (node_lines R x) (take i (plan_nodes x)) ≡ plan_quotient R x
 quotient_by_nodes R x i h =
-    ap (flat_map (node_lines R x)) (take_all i (plan_nodes x) h) ∙ joined-map (new_lines (has x.shared) R (plan_lines x)) (line x.terms.now x.alternatives.now) (plan_nodes x)
+    ap (flat_map (node_lines R x)) (take_all i (plan_nodes x) h) ∙ joined-map (new_lines (has x.shared) R (plan_lines x)) (line x.tables.terms.now x.tables.alternatives.now) (plan_nodes x)

@@ -1,8 +1,13 @@
 -- Tables that are filled, entry after entry and line after line.
-use Rattle.std.proofs.Common.{◌≡◌, ℕ, suc, ◌+◌, ◌≤◌, true, leb, List, [], ◌∷◌, ◌++◌, length, take, drop, set, sym, refl, ap, ◌∙◌, ap₂, append_assoc, add-zero, arith}
-use Rattle.std.proofs.lemmas.List.{length-append, take-append-drop, take_more_set, drop-set-lt, length-set}
+use Rattle.std.proofs.Common.{◌≡◌, ℕ, suc, ◌+◌, ◌<◌, ◌≤◌, true, leb, List, [], ◌∷◌, ◌++◌, map, length, get_or, take, drop, set, sym, refl, ap, ◌∙◌, ap₂, append_assoc, add-zero, arith}
+use Rattle.std.specs.List.{range_with_len, flat_map}
+use Rattle.std.proofs.lemmas.List.{length-append, take-append-drop, take_more_set, drop-set-lt, length-set, map_more, map-append}
+use Rattle.std.proofs.Concat.{flat_map-take_more}
+use Rattle.std.proofs.lemmas.List.FromFn.{map-range_with_len_more}
 use Rattle.std.proofs.lemmas.Bool.{and_parts, leb-true}
 use Rattle.std.proofs.iter.runs.Lists.{fold-append}
+use Rattle.systems.specs.Piles.{cross}
+use Rattle.std.specs.Borrow.{MutBor}
 use Rattle.formulas.specs.declared.append.AppendList.{AppendList}
 use Rattle.formulas.specs.declared.node.Node.{Node}
 use Rattle.formulas.specs.declared.node.Node.TheVariants.{State, Dist}
@@ -13,8 +18,13 @@ use Rattle.formulas.specs.Append.{Table, table, Puts, raised}
 use Rattle.formulas.specs.Layout.{fills, run, terms_in, alternatives_in, node, node_table, term_table, alternative_table}
 use Rattle.formulas.specs.Lines.{Line, constant, both, non, step, sum}
 use Rattle.formulas.specs.Stores.{Store}
-use Rattle.quotient.specs.Layings.{appended, extended, stored, run_between, next_node, lay, lay_all}
+use Rattle.quotient.specs.declared.write.Lists.{Lists}
+use Rattle.quotient.specs.Layings.{appended, extended, SameTable, SameTables, run_between, next_node, lay, lay_all}
 use Rattle.formulas.specs.Tables.{slots, takes, fits, over, laid}
+use Rattle.quotient.proofs.Countings.{joined-counting_more, cross-more}
+
+abbrev pub stored : Table Node → Table Term → Table ℕ → Store
+stored ns ts alts = record { nodes = ns; terms = ts; alternatives = alts }
 
 module _ {X : Type 0} where
   pub put_is : (t u : Table X) (n : ℕ) (x y : X) → x ≡ y → Puts t (x ∷ []) n u → u ≡ appended t y
@@ -53,9 +63,41 @@ module _ {X : Type 0} where
       ∙ slots-extended t xs (omega arith) (omega arith)
       ∙ ap₂ (λ n k. take n t.slots ++ (xs ++ drop k t.slots)) z (omega arith)
 
+-- one entry more, or those of one element
+module _ {X Y : Type 0} (f : Y → X) (t u v : Table X) where
+  pub put_more : (ys : List Y) (i : ℕ) (d : Y) (n : ℕ) (x : X) → i < length ys → u ≡ extended t (map f (take i ys)) → x ≡ f (get_or ys i d) → Puts u (x ∷ []) n v → v ≡ extended t (map f (take (i + 1) ys))
+  put_more ys i d n x h e g p = extended-more t u v (map f (take i ys)) (f (get_or ys i d) ∷ []) _ e (put_is u v n x _ g p) (map_more f ys i d h)
+
+pub put-next : {X : Type 0} (f : ℕ → X) (t u v : Table X) (a k n : ℕ) (x : X) → u ≡ extended t (map f (range_with_len a k)) → x ≡ f (a + k) → Puts u (x ∷ []) n v → v ≡ extended t (map f (range_with_len a (k + 1)))
+put-next f t u v a k n x e g p = extended-more t u v (map f (range_with_len a k)) (f (a + k) ∷ []) _ e (put_is u v n x _ g p) (map-range_with_len_more f a k (a + k) refl)
+
+pub put-cross : {X Y Z : Type 0} (f : Y → Z → X) (t u v : Table X) (ys : List Y) (i : ℕ) (d : Y) (zs : List Z) → i < length ys → u ≡ extended t (cross f (take i ys) zs) → v ≡ extended u (map (f (get_or ys i d)) zs) → v ≡ extended t (cross f (take (i + 1) ys) zs)
+put-cross f t u v ys i d zs h e g = extended-more t u v (cross f (take i ys) zs) (map (f (get_or ys i d)) zs) _ e g (cross-more f ys i d zs h)
+
 -- lines behind lines
 pub lay_more : (s u v : Store) (ls ms ns : List Line) → u ≡ lay_all s ls → v ≡ lay_all u ms → ns ≡ ls ++ ms → v ≡ lay_all s ns
 lay_more s u v ls ms ns e f g = f ∙ ap (λ w. lay_all w ms) e ∙ sym (fold-append lay s ls ms) ∙ ap (lay_all s) (sym g)
+
+pub lay-next : (f : ℕ → Line) (s u v : Store) (k : ℕ) → u ≡ lay_all s (map f (range_with_len 0 k)) → v ≡ lay u (f k) → v ≡ lay_all s (map f (range_with_len 0 (k + 1)))
+lay-next f s u v k e g = lay_more s u v (map f (range_with_len 0 k)) (f k ∷ []) _ e g (map-range_with_len_more f 0 k k (omega arith))
+
+module _ {X : Type 0} (s u v : Store) where
+  pub lay-each : (f : X → Line) (xs : List X) (k : ℕ) (d : X) → k < length xs → u ≡ lay_all s (map f (take k xs)) → v ≡ lay u (f (get_or xs k d)) → v ≡ lay_all s (map f (take (k + 1) xs))
+  lay-each f xs k d h e g = lay_more s u v (map f (take k xs)) (f (get_or xs k d) ∷ []) _ e g (map_more f xs k d h)
+
+  pub lay-joined : (f : X → Line) (g : ℕ → List X) (k : ℕ) → u ≡ lay_all s (map f (flat_map g (range_with_len 0 k))) → v ≡ lay_all u (map f (g k)) → v ≡ lay_all s (map f (flat_map g (range_with_len 0 (k + 1))))
+  lay-joined f g k e h =
+      lay_more s u v (map f (flat_map g (range_with_len 0 k))) (map f (g k)) _ e h (ap (map f) (joined-counting_more g k) ∙ map-append f (flat_map g (range_with_len 0 k)) (g k))
+
+  pub lay-lines : (f : X → List Line) (xs : List X) (k : ℕ) (d : X) → k < length xs → u ≡ lay_all s (flat_map f (take k xs)) → v ≡ lay_all u (f (get_or xs k d)) → v ≡ lay_all s (flat_map f (take (k + 1) xs))
+  lay-lines f xs k d h e g = lay_more s u v (flat_map f (take k xs)) (f (get_or xs k d)) _ e g (sym (flat_map-take_more f xs k d h))
+
+-- the same tables, step after step
+same-list : {X : Type 0} (l m n : MutBor (AppendList X)) → SameTable l m → SameTable m n → SameTable l n
+same-list l m n a b = (b.0 ∙ a.0, b.1 ∙ a.1)
+
+pub same-on : (l m n : Lists) → SameTables l m → SameTables m n → SameTables l n
+same-on l m n a b = (same-list l.nodes m.nodes n.nodes a.0 b.0, same-list l.terms m.terms n.terms a.1 b.1, same-list l.alternatives m.alternatives n.alternatives a.2 b.2)
 
 pub lay_step : (ns ms : Table Node) (ats bs cs : Table ℕ) (a : ℕ) (xs ys : List ℕ) (l : Line) → bs ≡ extended ats xs → cs ≡ extended bs ys → ms ≡ appended ns (State (Step a (run_between ats bs) (run_between bs cs))) → l ≡ step a xs ys → (ts : Table Term) → stored ms ts cs ≡ lay (stored ns ts ats) l
 lay_step ns ms ats bs cs a xs ys l e f g h ts =

@@ -12,7 +12,7 @@ use Rattle.formulas.specs.Layout.{fills}
 use Rattle.formulas.specs.Lines.{Formula, lines}
 use Rattle.formulas.specs.Right.{AllRight}
 use Rattle.formulas.specs.Stands.{stands}
-use Rattle.formulas.specs.Tables.{Slots, fits, laid, stands_in, formula_at, standing}
+use Rattle.formulas.specs.Tables.{Slots, takes, fits, laid, stands_in, formula_at, standing}
 use Rattle.quotient.specs.Quotient.{quotient}
 
 -- the formula in the tables s, with the system R removed
@@ -22,6 +22,16 @@ remainder A R f root s = quotient (has A) R (formula_at f root s)
 -- where a formula stands in the second tables, if they have room for it
 abbrev pub placed : Formula → Slots → Result Standing Refusal
 placed F second = cond (fits (fills F.lines) second) (Ok (standing F)) (Err Short)
+
+-- so many entries, where a table of that size takes them
+abbrev pub room_for : ℕ → ℕ → Result ℕ Refusal
+room_for size need = cond (takes size need) (Ok need) (Err Short)
+
+-- what keeps R from being removed, mass m having been removed: its size, or the masses
+abbrev pub removable : ℕ → Meaning → Result Unit Refusal
+removable m R =
+    cond (nat_lt 4096 R.states || nat_lt 4096 R.breadth) (Err Large)
+    (cond (nat_lt 1000000000000000 (m * R.mass)) (Err Heavy) (Ok tt))
 
 -- where the quotient stands, or why there is none: no formula, too large a system, too much mass, too little room
 abbrev pub divided : ActionSet → Meaning → Fills → ℕ → ℕ → Slots → Slots → Result Standing Refusal

@@ -1,15 +1,17 @@
 -- Tables as they fill, entry by entry and line by line.
-use Rattle.std.specs.Prelude.{ℕ, ◌-◌, List, fold, slice_set}
+use Rattle.std.specs.Prelude.{◌≡◌, ◌-◌, List, fold, slice_set}
+use Rattle.std.specs.Borrow.{MutBor}
+use Rattle.formulas.specs.declared.append.AppendList.{AppendList}
 use Rattle.formulas.specs.declared.node.Node.{Node}
 use Rattle.formulas.specs.declared.node.Node.TheVariants.{State, Dist}
 use Rattle.formulas.specs.declared.node.StateNode.TheVariants.{Step}
 use Rattle.formulas.specs.declared.node.DistNode.TheVariants.{Sum}
 use Rattle.formulas.specs.declared.node.Run.{Run}
-use Rattle.formulas.specs.declared.node.Term.{Term}
 use Rattle.formulas.specs.Append.{Table, raised}
 use Rattle.formulas.specs.Layout.{run, terms_in, alternatives_in, constant_node, both_node, non_node}
 use Rattle.formulas.specs.Lines.{Line, constant, both, non, step, sum}
-use Rattle.formulas.specs.Stores.{Store}
+use Rattle.formulas.specs.Stores.{Store, store}
+use Rattle.quotient.specs.declared.write.Lists.{Lists}
 
 -- one entry more; what passes the end is counted and not written
 abbrev pub appended : {X : Type 0} → Table X → X → Table X
@@ -18,8 +20,16 @@ appended t x = record { slots = slice_set t.slots t.fill x; fill = raised t.fill
 abbrev pub extended : {X : Type 0} → Table X → List X → Table X
 extended t xs = fold appended t xs
 
-abbrev pub stored : Table Node → Table Term → Table ℕ → Store
-stored ns ts alts = record { nodes = ns; terms = ts; alternatives = alts }
+-- what three lists hold
+abbrev pub filled : Lists → Store
+filled l = store l.nodes.now l.terms.now l.alternatives.now
+
+-- the same list, over the same table
+abbrev pub SameTable : {X : Type 0} → MutBor (AppendList X) → MutBor (AppendList X) → Type 0
+SameTable l m = (m.ghost_name ≡ l.ghost_name) × (m.now.slots.ghost_name ≡ l.now.slots.ghost_name)
+
+abbrev pub SameTables : Lists → Lists → Type 0
+SameTables l m = SameTable l.nodes m.nodes × SameTable l.terms m.terms × SameTable l.alternatives m.alternatives
 
 -- the run of what a table has more than before
 abbrev pub run_between : {X : Type 0} → Table X → Table X → Run

@@ -12,9 +12,11 @@ use Rattle.formulas.specs.declared.node.StateNode as sn
 use Rattle.formulas.specs.declared.node.DistNode.{DistNode}
 use Rattle.formulas.specs.declared.node.DistNode as dn
 use Rattle.formulas.specs.declared.node.Term.{Term}
-use Rattle.formulas.specs.Lines.{Line, sum, line, lines}
+use Rattle.formulas.specs.Lines.{Line, sum, line, lines, entries}
 use Rattle.formulas.specs.Right.{Right}
 use Rattle.quotient.specs.declared.plan.Plan.{Plan}
+use Rattle.quotient.specs.declared.write.Step.{Step}
+use Rattle.quotient.specs.declared.write.Sum.{Sum}
 use Rattle.quotient.specs.Quotient.{rows, first_row, new_line, new_lines, quotient_lines}
 
 -- how many lines a node gives, where there are n states and r rows
@@ -35,10 +37,10 @@ abbrev pub Firsts : Meaning → List ℕ → ℕ → Type 0
 Firsts R firsts n = (i : ℕ) → i < n → slice_index firsts i ≡ first_row R (i / 32) (i % 32)
 
 abbrev pub plan_nodes : Plan → List Node
-plan_nodes x = x.nodes.now
+plan_nodes x = x.tables.nodes.now
 
 abbrev pub plan_lines : Plan → List Line
-plan_lines x = lines x.nodes.now x.terms.now x.alternatives.now
+plan_lines x = lines x.tables.nodes.now x.tables.terms.now x.tables.alternatives.now
 
 -- the number of the line that node d gives at the state or row p
 abbrev pub place_in : Plan → ℕ → ℕ → ℕ
@@ -68,7 +70,14 @@ pub record Fit (x : Plan) (n : Node) : Type 0 where
   pub removed : ℕ
   pub inside : index < length (plan_nodes x)
   pub light : removed * x.mass ≤ 1000000000000000
-  pub right : Right x.terms.now x.alternatives.now removed index n
+  pub right : Right x.tables.terms.now x.tables.alternatives.now removed index n
+
+-- a step, and a sum, as nodes
+abbrev pub step_node : Step → Node
+step_node s = State (sn.TheVariants.Step s.action s.moves s.heres)
+
+abbrev pub sum_node : Sum → Node
+sum_node s = Dist (dn.TheVariants.Sum s.threshold s.terms)
 
 -- a term whose node is in the plan, and whose coefficient times the mass is small
 pub record LightTerm (x : Plan) (k : Term) : Type 0 where
@@ -128,17 +137,17 @@ plan_quotient R x = quotient_lines (has x.shared) R (plan_lines x)
 
 -- what a node gives at the state or row p, and at all of them
 abbrev pub node_line : Meaning → Plan → Node → ℕ → Line
-node_line R x n p = new_line (has x.shared) R (plan_lines x) (line x.terms.now x.alternatives.now n) p
+node_line R x n p = new_line (has x.shared) R (plan_lines x) (line x.tables.terms.now x.tables.alternatives.now n) p
 
 abbrev pub node_lines : Meaning → Plan → Node → List Line
-node_lines R x n = new_lines (has x.shared) R (plan_lines x) (line x.terms.now x.alternatives.now n)
+node_lines R x n = new_lines (has x.shared) R (plan_lines x) (line x.tables.terms.now x.tables.alternatives.now n)
 
 -- what a term gives at a target, and a sum at a move or point
 abbrev pub term_at : Plan → Term → Target → Term
 term_at x k t = record { coefficient = k.coefficient * t.weight; node = place_in x k.node t.state }
 
-abbrev pub sum_at : Plan → ℕ → List Term → Move → Line
-sum_at x t ks mv = sum (t * x.mass) (cross (term_at x) ks mv)
+abbrev pub sum_at : Plan → Sum → Move → Line
+sum_at x s mv = sum (s.threshold * x.mass) (cross (term_at x) (entries x.tables.terms.now s.terms) mv)
 
 -- a count, which stops at 2^64 - 1
 abbrev pub topped : ℕ → ℕ

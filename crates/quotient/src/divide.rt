@@ -1,15 +1,14 @@
 // Dividing a formula by a system: the quotient of the formula, written to second tables.
-ghost use Rattle.std.specs.Prelude.{◌≡◌, ◌*◌, ◌||◌, nat_lt};
-ghost use Rattle.formulas.specs.Tables.{slots, contents};
-ghost use Rattle.quotient.specs.Divisions.{remainder, divided, after as afterwards, placed, whole_remainder, Dividable};
+ghost use Rattle.std.specs.Prelude.{◌≡◌};
+ghost use Rattle.formulas.specs.Tables.{contents, held, SameLoans};
+ghost use Rattle.quotient.specs.Divisions.{removable, remainder, divided, after as afterwards, placed, whole_remainder, Dividable};
 
-use crate::need::{alternatives_need, has_room, terms_need};
-use crate::plan::{Plan, fill_firsts, fill_offsets, place};
-use crate::write::write;
-use formulas::node::{Fills, Node, Term};
+use crate::need::{alternatives_need, room, terms_need};
+use crate::plan::{Division, Plan, fill_firsts, fill_offsets};
+use formulas::node::Fills;
 use formulas::refusal::Refusal;
 use formulas::stands::{formula_in, layout_stands, tables_stand};
-use formulas::tables::{Standing, Tables, front};
+use formulas::tables::{Standing, Tables, TablesMut, front};
 use systems::actions::ActionSet;
 use systems::system::System;
 
@@ -20,31 +19,31 @@ const MOST_MASS: u128 = 1000000000000000;
 // The most nodes of a formula that has a quotient: each gives at least one.
 const MOST_NODES: usize = 1048576;
 
-fn too_large<S: System>(system: &S) -> bool
-    ensures { result ≡ (nat_lt 4096 (S.meaning system.now).states || nat_lt 4096 (S.meaning system.now).breadth) }
+// Whether a system can be removed, `mass` having been removed.
+fn removable<S: System>(mass: u64, system: &S) -> Result<(), Refusal>
+    ensures { result ≡ removable mass (S.meaning system.now) }
 {
-    MOST_STATES < system.states() || MOST_STATES < system.breadth()
-}
-
-fn too_heavy<S: System>(removed: u64, system: &S) -> bool
-    ensures { result ≡ nat_lt 1000000000000000 (removed * (S.meaning system.now).mass) }
-{
-    MOST_MASS < removed as u128 * system.mass() as u128
+    if MOST_STATES < system.states() || MOST_STATES < system.breadth() {
+        return Err(Refusal::Large);
+    }
+    if MOST_MASS < mass as u128 * system.mass() as u128 {
+        return Err(Refusal::Heavy);
+    }
+    Ok(())
 }
 
 // Writes the quotient of the formula that fills its tables, once all that it takes is counted and fits.
-fn divide_whole<S: System>(
-    used: Tables,
+fn divide_whole<'a, S: System>(
+    used: Tables<'a>,
     root: u32,
     shared: ActionSet,
-    system: &S,
-    nodes: &mut [Node],
-    terms: &mut [Term],
-    alternatives: &mut [u32],
+    system: &'a S,
+    second: &mut TablesMut,
 ) -> Result<Standing, Refusal>
     requires { Dividable (S.meaning system.now) used root }
-    ensures value { result ≡ placed (whole_remainder shared (S.meaning system.now) used.entry root) (slots nodes.old terms.old alternatives.old) }
-    ensures tables { slots nodes.new terms.new alternatives.new ≡ afterwards result (whole_remainder shared (S.meaning system.now) used.entry root) (slots nodes.old terms.old alternatives.old) }
+    ensures lent { SameLoans second.old second.new }
+    ensures value { result ≡ placed (whole_remainder shared (S.meaning system.now) used.entry root) (held second.old) }
+    ensures tables { held second.new ≡ afterwards result (whole_remainder shared (S.meaning system.now) used.entry root) (held second.old) }
 {
     layout_stands();
     tables_stand();
@@ -55,22 +54,15 @@ fn divide_whole<S: System>(
     let rows = fill_firsts(system, &mut firsts);
     let states = system.states();
     let mut offsets = [0; 32768];
-    let node_need = fill_offsets(used.nodes, states, rows, &mut offsets);
-    if !has_room(nodes.len(), node_need) {
-        return Err(Refusal::Short);
-    }
-    let term_need = terms_need(system, used.terms.len());
-    if !has_room(terms.len(), term_need) {
-        return Err(Refusal::Short);
-    }
-    let alternative_need = alternatives_need(system, shared, used.nodes);
-    if !has_room(alternatives.len(), alternative_need) {
-        return Err(Refusal::Short);
-    }
+    let lines = fill_offsets(used.nodes, states, rows, &mut offsets);
+    let nodes = room(second.nodes.len(), lines)?;
+    let terms = room(second.terms.len(), terms_need(system, used.terms.len()))?;
+    let alternatives = room(
+        second.alternatives.len(),
+        alternatives_need(system, shared, used.nodes),
+    )?;
     let plan = Plan {
-        nodes: used.nodes,
-        terms: used.terms,
-        alternatives: used.alternatives,
+        tables: used,
         shared,
         states,
         rows,
@@ -78,15 +70,16 @@ fn divide_whole<S: System>(
         offsets: &offsets,
         firsts: &firsts,
     };
-    write(system, plan, nodes, terms, alternatives);
+    let division = Division { system, plan };
+    division.write(second.nodes, second.terms, second.alternatives);
     let fills = Fills {
-        nodes: node_need as u32,
-        terms: term_need as u32,
-        alternatives: alternative_need as u32,
+        nodes,
+        terms,
+        alternatives,
     };
     Ok(Standing {
         fills,
-        root: place(plan, root, 0),
+        root: division.place(root, 0),
     })
 }
 
@@ -98,29 +91,16 @@ pub fn divide<S: System>(
     shared: ActionSet,
     tables: Tables,
     system: &S,
-    nodes: &mut [Node],
-    terms: &mut [Term],
-    alternatives: &mut [u32],
+    second: &mut TablesMut,
 ) -> Result<Standing, Refusal>
-    ensures value { result ≡ divided shared (S.meaning system.now) standing.fills standing.root mass (contents tables.entry) (slots nodes.old terms.old alternatives.old) }
-    ensures tables { slots nodes.new terms.new alternatives.new ≡ afterwards result (remainder shared (S.meaning system.now) standing.fills standing.root (contents tables.entry)) (slots nodes.old terms.old alternatives.old) }
+    ensures lent { SameLoans second.old second.new }
+    ensures value { result ≡ divided shared (S.meaning system.now) standing.fills standing.root mass (contents tables.entry) (held second.old) }
+    ensures tables { held second.new ≡ afterwards result (remainder shared (S.meaning system.now) standing.fills standing.root (contents tables.entry)) (held second.old) }
 {
     if !formula_in(standing, mass, tables) {
         return Err(Refusal::NoFormula);
     }
-    if too_large(system) {
-        return Err(Refusal::Large);
-    }
-    if too_heavy(mass, system) {
-        return Err(Refusal::Heavy);
-    }
-    divide_whole(
-        front(standing.fills, tables),
-        standing.root,
-        shared,
-        system,
-        nodes,
-        terms,
-        alternatives,
-    )
+    removable(mass, system)?;
+    let used = front(standing.fills, tables);
+    divide_whole(used, standing.root, shared, system, second)
 }

@@ -4,6 +4,7 @@
 pub mod divide;
 mod need;
 mod plan;
+mod runs;
 mod write;
 
 ghost use Rattle.quotient.specs.Theorems.{QuotientLaw, QuotientAt, BoundsLaw, OrderLaw, ShapeLaw};
@@ -11,18 +12,18 @@ ghost use Rattle.quotient.specs.Theorems.{QuotientLaw, QuotientAt, BoundsLaw, Or
 use formulas::stands::course_stands;
 
 // Removing a system from the top of a pile: the whole formula, line by line, and the bounds of its sums.
-pub fn quotient_stands() -> u8
+pub fn quotient_stands()
     ensures whole { QuotientLaw }
     ensures lines { QuotientAt }
     ensures bounds { BoundsLaw }
 {
-    course_stands()
+    course_stands();
 }
 
 // Stacks: their order does not matter, for systems that are in shape, as those that keep the rules are.
-pub fn stack_stands() -> u8
+pub fn stack_stands()
     ensures order { OrderLaw }
     ensures shape { ShapeLaw }
 {
-    course_stands()
+    course_stands();
 }

@@ -1,11 +1,12 @@
 // How many entries a quotient takes. Counts stop at the largest number.
 ghost use Rattle.std.specs.Prelude.{◌≡◌, ◌*◌, sum_by};
 ghost use Rattle.systems.specs.Actions.{has};
-ghost use Rattle.formulas.specs.Tables.{takes};
+ghost use Rattle.quotient.specs.Divisions.{room_for};
 ghost use Rattle.quotient.specs.Plans.{topped, targets_on, targets_from, all_targets, step_need, steps_need, alternative_need};
 
 use crate::plan::ACTIONS;
 use formulas::node::{Node, StateNode};
+use formulas::refusal::Refusal;
 use systems::actions::ActionSet;
 use systems::system::System;
 
@@ -115,9 +116,13 @@ pub(crate) fn alternatives_need<S: System>(system: &S, shared: ActionSet, nodes:
     sum
 }
 
-// Whether a table of that length has the room.
-pub(crate) fn has_room(len: usize, need: u64) -> bool
-    ensures { result ≡ takes len need }
+// The room that so many entries take in a table of that length.
+pub(crate) fn room(len: usize, need: u64) -> Result<u32, Refusal>
+    ensures { result ≡ room_for len need }
 {
-    need <= len as u64 && need <= MOST_ENTRIES
+    if need <= len as u64 && need <= MOST_ENTRIES {
+        Ok(need as u32)
+    } else {
+        Err(Refusal::Short)
+    }
 }

@@ -1,9 +1,11 @@
 // Where the lines of a quotient go: the rows of a system, and the places of the lines that each node gives.
-ghost use Rattle.std.specs.Prelude.{◌≡◌, ◌+◌, ◌*◌, ◌<◌, ◌≤◌, length, if◌then◌else◌, nat_lt, slice_index};
-ghost use Rattle.quotient.specs.Quotient.{rows as all_rows};
-ghost use Rattle.quotient.specs.Plans.{node_width, width_before, Sampled, Firsts, plan_nodes, place_in, Sampling};
+ghost use Rattle.std.specs.Prelude.{◌≡◌, ◌+◌, ◌*◌, ◌<◌, ◌≤◌, length};
+ghost use Rattle.std.specs.List.{range_with_len};
+ghost use Rattle.quotient.specs.Quotient.{rows as all_rows, move_rows};
+ghost use Rattle.quotient.specs.Plans.{node_width, width_before, Sampled, Firsts, plan_nodes, place_in, Planned};
 
-use formulas::node::{Node, Term};
+use formulas::node::{Node, Run};
+use formulas::tables::Tables;
 use systems::actions::ActionSet;
 use systems::system::System;
 
@@ -14,9 +16,7 @@ const BLOCK: usize = 32;
 // A formula in its tables, the numbers of a system, and places in the quotient.
 #[derive(Clone, Copy)]
 pub(crate) struct Plan<'a> {
-    pub nodes: &'a [Node],
-    pub terms: &'a [Term],
-    pub alternatives: &'a [u32],
+    pub tables: Tables<'a>,
     pub shared: ActionSet,
     pub states: u32,
     pub rows: u32,
@@ -25,6 +25,14 @@ pub(crate) struct Plan<'a> {
     pub offsets: &'a [u64],
     // The row of the first move of each state on each action.
     pub firsts: &'a [u32],
+}
+
+// A system, and the plan of a quotient by it.
+#[derive(Drop)]
+pub(crate) struct Division<'a, S: System> {
+    pub system: &'a S,
+    pub plan: Plan<'a>,
+    ghost planned: { Planned (S.meaning system.now) plan },
 }
 
 // Fills in the row of the first move of each state on each action, and answers the number of all rows.
@@ -43,18 +51,6 @@ pub(crate) fn fill_firsts<S: System>(system: &S, firsts: &mut [u32]) -> u32
         next += system.moves(i / ACTIONS, i % ACTIONS);
     }
     next
-}
-
-// The row of the first move of a state on an action; on no action past the last is there a move.
-pub(crate) fn first_row(plan: Plan, state: u32, action: u32) -> u32
-    requires long { state * 32 + 32 ≤ length plan.firsts.now }
-    ensures { result ≡ (if nat_lt action 32 then slice_index plan.entry.firsts.now (state * 32 + action) else 0) }
-{
-    if action < ACTIONS {
-        plan.firsts[state as usize * ACTIONS as usize + action as usize]
-    } else {
-        0
-    }
 }
 
 // How many lines a node gives.
@@ -89,36 +85,51 @@ pub(crate) fn fill_offsets(nodes: &[Node], states: u32, rows: u32, offsets: &mut
     ensures offsets { Sampled states rows nodes.now offsets.new (length nodes.now) }
 {
     let mut total: u64 = 0;
-    let count = nodes.len();
-    for i in 0..count {
+    for (i, node) in nodes.iter().enumerate() {
         sample(nodes, states, rows, i, total, offsets);
-        total += width(nodes[i], states, rows) as u64;
+        total += width(*node, states, rows) as u64;
     }
     total
 }
 
-// How many lines come before those of node `d`.
-pub(crate) fn offset(plan: Plan, d: u32) -> u64
-    requires sampling { Sampling plan }
-    requires inside { d < length (plan_nodes plan) }
-    ensures value { result ≡ width_before plan.entry.states plan.entry.rows (plan_nodes plan.entry) d }
-    ensures small { result ≤ 1048576 }
-{
-    let end = d as usize;
-    let block = end / BLOCK;
-    let mut sum = plan.offsets[block];
-    for j in block * BLOCK..end {
-        sum += width(plan.nodes[j], plan.states, plan.rows) as u64;
+impl<'a, S: System> Division<'a, S> {
+    // The rows of the moves of a state on an action; on no action past the last is there a move.
+    pub(crate) fn rows_of(&self, state: u32, action: u32) -> Run
+        requires inside { state < (S.meaning self.now.system.now).states }
+        ensures rows { range_with_len result.first result.count ≡ move_rows (S.meaning self.now.system.now) state action }
+        ensures small { result.first + result.count ≤ 1073741824 }
+    {
+        let count = self.system.moves(state, action);
+        let first = if action < ACTIONS {
+            self.plan.firsts[state as usize * ACTIONS as usize + action as usize]
+        } else {
+            0
+        };
+        Run { first, count }
     }
-    sum
-}
 
-// The number of the line that node `d` gives at the state or row `p`.
-pub(crate) fn place(plan: Plan, d: u32, p: u32) -> u32
-    requires sampling { Sampling plan }
-    requires inside { d < length (plan_nodes plan) }
-    requires small { p ≤ 1073741824 }
-    ensures { result ≡ place_in plan.entry d p }
-{
-    (offset(plan, d) + p as u64) as u32
+    // How many lines come before those of node `d`.
+    pub(crate) fn offset(&self, d: u32) -> u64
+        requires inside { d < length (plan_nodes self.now.plan) }
+        ensures value { result ≡ width_before self.now.plan.states self.now.plan.rows (plan_nodes self.now.plan) d }
+        ensures small { result ≤ 1048576 }
+    {
+        let plan = self.plan;
+        let end = d as usize;
+        let block = end / BLOCK;
+        let mut sum = plan.offsets[block];
+        for node in &plan.tables.nodes[block * BLOCK..end] {
+            sum += width(*node, plan.states, plan.rows) as u64;
+        }
+        sum
+    }
+
+    // The number of the line that node `d` gives at the state or row `p`.
+    pub(crate) fn place(&self, d: u32, p: u32) -> u32
+        requires inside { d < length (plan_nodes self.now.plan) }
+        requires small { p ≤ 1073741824 }
+        ensures { result ≡ place_in self.now.plan d p }
+    {
+        (self.offset(d) + p as u64) as u32
+    }
 }

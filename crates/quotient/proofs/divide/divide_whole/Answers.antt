@@ -1,71 +1,68 @@
-use Rattle.std.proofs.Common.{◌*◌, length, sym, refl, ap, ◌∙◌, arith}
-use Rattle.formulas.specs.Tables.{slots}
+use Rattle.std.proofs.Common.{◌*◌, length, ap, ◌∙◌, arith}
+use Rattle.std.proofs.lemmas.Result.{err_from_is_err_and}
+use Rattle.formulas.specs.Tables.{held}
 use Rattle.quotient.specs.Divisions.{whole_remainder}
 use Rattle.quotient.proofs.Dividing.{place_at}
-use Rattle.quotient.proofs.Laying.{room}
-use Rattle.quotient.proofs.Rooms.{takes_same, takes-topped, exact, short-nodes, short-terms, short-alternatives, all_fit, found, too_many, node-count, term_count, alternative-count, root-inside}
+use Rattle.quotient.proofs.Rooms.{too-many-nodes, short-nodes, short-terms, short-alternatives, small, all_fit, found, too_many, node-count, term_count, alternative-count, root-inside}
 use Rattle.quotient.proofs.divide.divide_whole.Goals as goal
 
-pub returns-then-used-gt-MOST_NODES : goal.returns-then-used-gt-MOST_NODES
-returns-then-used-gt-MOST_NODES g c =
+pub returns-then-used-gt-MOST_NODES-clause-value : goal.returns-then-used-gt-MOST_NODES-clause-value
+returns-then-used-gt-MOST_NODES-clause-value g c =
     let R = g.S.System.meaning c.args.system.now in
     let u = c.args.used in
-    let Q = whole_remainder c.args.shared R u c.args.root in
-    let second = slots c.args.nodes.now c.args.terms.now c.args.alternatives.now in
-    record { value = short-nodes Q second (too_many c.args.shared R u c.args.root c.requires (g.met.S.System.sound c.args.system.now).ruled.states_low _ c.if-used-gt-MOST_NODES.true); tables = refl }
+    too-many-nodes (whole_remainder c.args.shared R u c.args.root) (held c.args.second.now) (too_many c.args.shared R u c.args.root c.requires (g.met.S.System.sound c.args.system.now).ruled.states_low _ c.if-used-gt-MOST_NODES.true)
 
-pub returns-then-not-has_room : goal.returns-then-not-has_room
-returns-then-not-has_room g c =
+pub returns-in_err-nodes-clause-value : goal.returns-in_err-nodes-clause-value
+returns-in_err-nodes-clause-value g c =
     let R = g.S.System.meaning c.args.system.now in
     let u = c.args.used in
-    let Q = whole_remainder c.args.shared R u c.args.root in
-    let second = slots c.args.nodes.now c.args.terms.now c.args.alternatives.now in
-    let nodes = node-count c.args.shared R u c.args.root c.requires _ _ c.states-states.ensures c.fill_firsts-rows.ensures.rows _ c.fill_offsets-node_need.ensures.total in
-    record { value = short-nodes Q second (takes_same _ _ _ _ nodes c.if-not-has_room.ensures); tables = refl }
+    let nodes = node-count c.args.shared R u c.args.root c.requires _ _ c.states-states.ensures c.fill_firsts-rows.ensures.rows _ c.fill_offsets-lines.ensures.total in
+    let p = err_from_is_err_and c.from_residual.result c.from_residual.ensures.1 in
+    rw (p.1, p.2) (short-nodes (whole_remainder c.args.shared R u c.args.root) (held c.args.second.now) _ _ nodes c.in_err-nodes.ensures)
 
-pub returns-then-not-has_room-2 : goal.returns-then-not-has_room-2
-returns-then-not-has_room-2 g c =
+pub returns-in_err-terms-clause-value : goal.returns-in_err-terms-clause-value
+returns-in_err-terms-clause-value g c =
     let R = g.S.System.meaning c.args.system.now in
     let u = c.args.used in
-    let Q = whole_remainder c.args.shared R u c.args.root in
-    let second = slots c.args.nodes.now c.args.terms.now c.args.alternatives.now in
-    let terms = term_count c.args.shared R u c.args.root c.requires c.layout_stands.ensures.tables _ c.terms_need-term_need.ensures in
-    record { value = short-terms Q second (takes-topped _ _ _ _ terms c.if-not-has_room-2.ensures); tables = refl }
+    let terms = term_count c.args.shared R u c.args.root c.requires c.layout_stands.ensures.tables _ c.terms_need.ensures in
+    let p = err_from_is_err_and c.from_residual-in_err-terms.result c.from_residual-in_err-terms.ensures.1 in
+    rw (p.1, p.2) (short-terms (whole_remainder c.args.shared R u c.args.root) (held c.args.second.now) _ _ terms c.in_err-terms.ensures)
 
-pub returns-then-not-has_room-3 : goal.returns-then-not-has_room-3
-returns-then-not-has_room-3 g c =
+pub returns-in_err-alternatives-clause-value : goal.returns-in_err-alternatives-clause-value
+returns-in_err-alternatives-clause-value g c =
     let R = g.S.System.meaning c.args.system.now in
     let u = c.args.used in
-    let Q = whole_remainder c.args.shared R u c.args.root in
-    let second = slots c.args.nodes.now c.args.terms.now c.args.alternatives.now in
-    let alternatives = alternative-count c.args.shared R u c.args.root c.requires _ c.alternatives_need-alternative_need.ensures in
-    record { value = short-alternatives Q second (takes-topped _ _ _ _ alternatives c.if-not-has_room-3.ensures); tables = refl }
+    let alternatives = alternative-count c.args.shared R u c.args.root c.requires _ c.alternatives_need.ensures in
+    let p = err_from_is_err_and c.from_residual-in_err-alternatives.result c.from_residual-in_err-alternatives.ensures.1 in
+    rw (p.1, p.2) (short-alternatives (whole_remainder c.args.shared R u c.args.root) (held c.args.second.now) _ _ alternatives c.in_err-alternatives.ensures)
+
+pub invariant_of-division : goal.invariant_of-division
+invariant_of-division g c = record {
+  planned = record {
+    states = c.states-states.ensures;
+    rows = c.fill_firsts-rows.ensures.rows;
+    mass = c.mass.ensures;
+    few = c.requires.few;
+    narrow = c.requires.narrow;
+    few_rows = c.fill_firsts-rows.ensures.small;
+    sampling = record {
+      sampled = c.fill_offsets-lines.ensures.offsets;
+      blocks = omega (arith, c.if-used-gt-MOST_NODES.false, c.fill_offsets-lines.auto.offsets);
+      few = omega (arith, small (length c.args.second.now.nodes.now) c.fill_offsets-lines.result c.in_ok-nodes.nodes c.in_ok-nodes.ensures, c.fill_offsets-lines.ensures.total);
+    };
+    firsts = c.fill_firsts-rows.ensures.firsts;
+    long = omega (arith, c.requires.few, c.fill_firsts-rows.auto.firsts);
+  };
+}
 
 pub write-requires : goal.write-requires
 write-requires g c =
     let R = g.S.System.meaning c.args.system.now in
     let u = c.args.used in
-    let Q = whole_remainder c.args.shared R u c.args.root in
-    let second = slots c.args.nodes.now c.args.terms.now c.args.alternatives.now in
-    let nodes = node-count c.args.shared R u c.args.root c.requires _ _ c.states-states.ensures c.fill_firsts-rows.ensures.rows _ c.fill_offsets-node_need.ensures.total in
-    let terms = term_count c.args.shared R u c.args.root c.requires c.layout_stands.ensures.tables _ c.terms_need-term_need.ensures in
-    let alternatives = alternative-count c.args.shared R u c.args.root c.requires _ c.alternatives_need-alternative_need.ensures in
+    let nodes = node-count c.args.shared R u c.args.root c.requires _ _ c.states-states.ensures c.fill_firsts-rows.ensures.rows _ c.fill_offsets-lines.ensures.total in
+    let terms = term_count c.args.shared R u c.args.root c.requires c.layout_stands.ensures.tables _ c.terms_need.ensures in
+    let alternatives = alternative-count c.args.shared R u c.args.root c.requires _ c.alternatives_need.ensures in
     record {
-      planned = record {
-        states = c.states-states.ensures;
-        rows = c.fill_firsts-rows.ensures.rows;
-        mass = c.mass.ensures;
-        few = c.requires.few;
-        narrow = c.requires.narrow;
-        few_rows = c.fill_firsts-rows.ensures.small;
-        sampling = record {
-          sampled = c.fill_offsets-node_need.ensures.offsets;
-          blocks = omega (arith, c.if-used-gt-MOST_NODES.false, c.fill_offsets-node_need.auto.offsets);
-          few = omega (arith, (room (length c.args.nodes.now) c.fill_offsets-node_need.result (sym c.if-not-has_room.ensures)).1, c.fill_offsets-node_need.ensures.total);
-        };
-        firsts = c.fill_firsts-rows.ensures.firsts;
-        long = omega (arith, c.requires.few, c.fill_firsts-rows.auto.firsts);
-      };
       fit = λ i n h. record {
         index = i;
         removed = c.requires.removed;
@@ -73,37 +70,18 @@ write-requires g c =
         light = omega (arith, c.requires.light, ap (λ m. c.requires.removed * m) c.mass.ensures);
         right = c.requires.right i n h;
       };
-      room = all_fit Q second (takes_same _ _ _ _ nodes c.if-not-has_room.ensures) (takes-topped _ _ _ _ terms c.if-not-has_room-2.ensures) (takes-topped _ _ _ _ alternatives c.if-not-has_room-3.ensures);
+      room = all_fit (whole_remainder c.args.shared R u c.args.root) (held c.args.second.now) _ _ _ _ _ _ nodes terms alternatives c.in_ok-nodes.ensures c.in_ok-terms.ensures c.in_ok-alternatives.ensures;
     }
-
-pub overflow_cast-fills-2 : goal.overflow_cast-fills-2
-overflow_cast-fills-2 g c = omega (arith, (room (length c.args.terms.now) c.terms_need-term_need.result (sym c.if-not-has_room-2.ensures)).1)
 
 pub place-requires : goal.place-requires
-place-requires g c =
-    let R = g.S.System.meaning c.args.system.now in
-    record {
-      sampling = record {
-        sampled = c.fill_offsets-node_need.ensures.offsets;
-        blocks = omega (arith, c.if-used-gt-MOST_NODES.false, c.fill_offsets-node_need.auto.offsets);
-        few = omega (arith, (room (length c.args.nodes.now) c.fill_offsets-node_need.result (sym c.if-not-has_room.ensures)).1, c.fill_offsets-node_need.ensures.total);
-      };
-      inside = root-inside c.args.shared R c.args.used c.args.root c.requires c.tables_stand.ensures.held;
-      small = omega arith;
-    }
+place-requires g c = record { inside = root-inside c.args.shared (g.S.System.meaning c.args.system.now) c.args.used c.args.root c.requires c.tables_stand.ensures.held; small = omega arith }
 
-pub returns : goal.returns
-returns g c =
+pub returns-clause-value : goal.returns-clause-value
+returns-clause-value g c =
     let R = g.S.System.meaning c.args.system.now in
     let u = c.args.used in
-    let Q = whole_remainder c.args.shared R u c.args.root in
-    let second = slots c.args.nodes.now c.args.terms.now c.args.alternatives.now in
-    let nodes = node-count c.args.shared R u c.args.root c.requires _ _ c.states-states.ensures c.fill_firsts-rows.ensures.rows _ c.fill_offsets-node_need.ensures.total in
-    let terms = term_count c.args.shared R u c.args.root c.requires c.layout_stands.ensures.tables _ c.terms_need-term_need.ensures in
-    let alternatives = alternative-count c.args.shared R u c.args.root c.requires _ c.alternatives_need-alternative_need.ensures in
-    let fit = all_fit Q second (takes_same _ _ _ _ nodes c.if-not-has_room.ensures) (takes-topped _ _ _ _ terms c.if-not-has_room-2.ensures) (takes-topped _ _ _ _ alternatives c.if-not-has_room-3.ensures) in
+    let nodes = node-count c.args.shared R u c.args.root c.requires _ _ c.states-states.ensures c.fill_firsts-rows.ensures.rows _ c.fill_offsets-lines.ensures.total in
+    let terms = term_count c.args.shared R u c.args.root c.requires c.layout_stands.ensures.tables _ c.terms_need.ensures in
+    let alternatives = alternative-count c.args.shared R u c.args.root c.requires _ c.alternatives_need.ensures in
     let root = c.place.ensures ∙ place_at R _ _ c.states-states.ensures c.fill_firsts-rows.ensures.rows u.terms.now u.alternatives.now u.nodes.now c.args.root 0 in
-    record {
-      value = found Q second _ _ _ _ nodes (exact _ _ _ terms c.if-not-has_room-2.ensures) (exact _ _ _ alternatives c.if-not-has_room-3.ensures) root fit;
-      tables = c.write.ensures;
-    }
+    found (whole_remainder c.args.shared R u c.args.root) (held c.args.second.now) _ _ _ _ _ _ nodes terms alternatives c.in_ok-nodes.ensures c.in_ok-terms.ensures c.in_ok-alternatives.ensures _ root
