@@ -2,7 +2,7 @@ use Rattle.std.proofs.Common.{◌≡◌, ℕ, ◌+◌, ◌-◌, ◌<◌, true, c
 use Rattle.std.proofs.lemmas.List.{length-map, get_or-map}
 use Rattle.std.proofs.ByRecursion.{All-weaker}
 use Rattle.formulas.specs.Lines.{state, Line, constant, line}
-use Rattle.formulas.specs.Tables.{slots}
+use Rattle.formulas.specs.Tables.{contents}
 use Rattle.formulas.specs.WellFormed.{line_at}
 use Rattle.simplification.specs.Simplify.{parts, reached}
 use Rattle.simplification.specs.Tables.{blank_node}
@@ -15,16 +15,16 @@ use Rattle.simplification.proofs.reach.reach.Goals as goal
 
 pub loop-i-init : goal.loop-i-init
 loop-i-init c =
-    let s₀ = slots c.args.nodes.now c.args.terms.now c.args.alternatives.now in
+    let s₀ = contents c.args.tables in
     let ls = all_lines s₀ in
-    ticks_start ls c.args.ticks.now c.args.root (length c.args.nodes.now) c.requires.blank c.requires.root
-    (omega (arith, length-map c.args.nodes.now (line c.args.terms.now c.args.alternatives.now)))
+    ticks_start ls c.args.ticks.now c.args.root (length c.args.tables.nodes.now) c.requires.blank c.requires.root
+    (omega (arith, length-map c.args.tables.nodes.now (line c.args.tables.terms.now c.args.tables.alternatives.now)))
 
 pub reach_at-requires : goal.reach_at-requires
 reach_at-requires c =
-    let s₀ = slots c.args.nodes.now c.args.terms.now c.args.alternatives.now in
+    let s₀ = contents c.args.tables in
     let i : ℕ = c.loop-i.i - 1 in
-    let h : i < length c.args.nodes.now = omega (arith, c.loop-i.auto.i, c.loop-i-test.true) in
+    let h : i < length c.args.tables.nodes.now = omega (arith, c.loop-i.auto.i, c.loop-i-test.true) in
     let same : length c.loop-i.ticks ≡ length c.args.ticks.now = c.loop-i.auto.ticks ∙ length-set c.args.ticks.now c.args.root 1 in
     record {
       node = h;
@@ -34,15 +34,15 @@ reach_at-requires c =
 
 pub loop-i-preserved : goal.loop-i-preserved
 loop-i-preserved c =
-    let s₀ = slots c.args.nodes.now c.args.terms.now c.args.alternatives.now in
+    let s₀ = contents c.args.tables in
     let ls = all_lines s₀ in
     let i : ℕ = c.loop-i.i - 1 in
     let s : c.loop-i.i ≡ i + 1 = omega (arith, c.loop-i-test.true) in
-    let h : i < length c.args.nodes.now = omega (arith, c.loop-i.auto.i, c.loop-i-test.true) in
-    let long : length ls ≡ length c.args.nodes.now = length-map c.args.nodes.now (line c.args.terms.now c.args.alternatives.now) in
+    let h : i < length c.args.tables.nodes.now = omega (arith, c.loop-i.auto.i, c.loop-i-test.true) in
+    let long : length ls ≡ length c.args.tables.nodes.now = length-map c.args.tables.nodes.now (line c.args.tables.terms.now c.args.tables.alternatives.now) in
     let same : length c.loop-i.ticks ≡ length c.args.ticks.now = c.loop-i.auto.ticks ∙ length-set c.args.ticks.now c.args.root 1 in
-    let at : line c.args.terms.now c.args.alternatives.now (get_or c.args.nodes.now i blank_node) ≡ line_at ls i =
-    sym (get_or-map (line c.args.terms.now c.args.alternatives.now) c.args.nodes.now i blank_node (constant state true) h) in
+    let at : line c.args.tables.terms.now c.args.tables.alternatives.now (get_or c.args.tables.nodes.now i blank_node) ≡ line_at ls i =
+    sym (get_or-map (line c.args.tables.terms.now c.args.tables.alternatives.now) c.args.tables.nodes.now i blank_node (constant state true) h) in
     let inv : Ticks c.loop-i.ticks (reached (i + 1) (drop (i + 1) ls) (c.args.root ∷ [])) =
     subst (λ (k : ℕ). Ticks c.loop-i.ticks (reached k (drop k ls) (c.args.root ∷ []))) s c.loop-i.invariant in
     ticks_turn ls (c.args.root ∷ []) i (omega (arith, long)) c.loop-i.ticks c.reach_at.new.ticks (omega (arith, long, same, c.requires.long))
