@@ -145,9 +145,9 @@ left-is R f g [] ys h e = e
 left-is R f g (x ∷ xs) ys h (o, zs, r, l, e) =
     e ∙ (ap₂ (λ (o : Option _) (ws : List _). cons_option o ws) (h.0 o r) (left-is R f g xs zs h.1 l) ∙ passes (f x))
   where
-  passes : (b : Bool) → cons_option (cond b (Some (g x)) None) (map g (filter f xs)) ≡ map g (cond b (x ∷ filter f xs) (filter f xs))
-  passes true = refl
-  passes false = refl
+    passes : (b : Bool) → cons_option (cond b (Some (g x)) None) (map g (filter f xs)) ≡ map g (cond b (x ∷ filter f xs) (filter f xs))
+    passes true = refl
+    passes false = refl
 
 -- the same of what is moved
 pub moved-is : {X : Type 0} (R : X → Option X → Type 0) (f : X → Bool) (g : X → X) (xs : List X) (p : ℕ) (old : List X) (e : ℕ) (new : List X) (m : Moved R xs p old e new)

@@ -64,19 +64,29 @@ fn tidy(used: Fills, tables: &mut TablesMut, map: &mut [u32])
 }
 
 // Simplifies the formula that fills these tables. The map has an entry for each node.
-fn shrink(root: u32, tables: &mut TablesMut, map: &mut [u32]) -> Standing
-    requires packed { Packed (held tables.old) }
-    requires long { length map.old ≡ length tables.old.nodes.now }
-    requires root { root < length tables.old.nodes.now }
-    ensures lent { SameLoans tables.old tables.new }
-    ensures answer { result ≡ standing_of (simplify (whole root (held tables.old))) }
-    ensures tables { held tables.new ≡ filled (simplify (whole root (held tables.old))).lines (held tables.old) }
+fn shrink(
+    root: u32,
+    nodes: &mut [Node],
+    terms: &mut [Term],
+    alternatives: &mut [u32],
+    map: &mut [u32],
+) -> Standing
+    requires packed { Packed (slots nodes.old terms.old alternatives.old) }
+    requires long { length map.old ≡ length nodes.old }
+    requires root { root < length nodes.old }
+    ensures answer { result ≡ standing_of (simplify (whole root (slots nodes.old terms.old alternatives.old))) }
+    ensures tables { slots nodes.new terms.new alternatives.new ≡ filled (simplify (whole root (slots nodes.old terms.old alternatives.old))).lines (slots nodes.old terms.old alternatives.old) }
     ensures map { map.new ≡ padded (length map.old) 0 [] }
 {
-    settle(tables, map);
+    let mut tables = TablesMut {
+        nodes,
+        terms,
+        alternatives,
+    };
+    settle(&mut tables, map);
     let top = map[root as usize];
-    let standing = cut(top, tables, map);
-    tidy(standing.fills, tables, map);
+    let standing = cut(top, &mut tables, map);
+    tidy(standing.fills, &mut tables, map);
     standing
 }
 
@@ -97,12 +107,10 @@ fn simplify_front(
     let count = fills.nodes as usize;
     shrink(
         standing.root,
-        &mut TablesMut {
-            nodes: &mut nodes[0..count],
-            terms: &mut terms[0..fills.terms as usize],
-            alternatives: &mut alternatives[0..fills.alternatives as usize],
-        },
-        &mut map[0..count],
+        &mut nodes[..count],
+        &mut terms[..fills.terms as usize],
+        &mut alternatives[..fills.alternatives as usize],
+        &mut map[..count],
     )
 }
 

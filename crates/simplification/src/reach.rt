@@ -55,16 +55,8 @@ fn tick_state(node: StateNode, alternatives: &[u32], ticks: &mut [u32])
             ticks[a as usize] = TICK;
             ticks[b as usize] = TICK;
         }
-        StateNode::Not(a) => {
-            ticks[a as usize] = TICK;
-        }
-        StateNode::Step {
-            action: _,
-            moves,
-            heres,
-        } => {
-            tick_step(moves, heres, alternatives, ticks);
-        }
+        StateNode::Not(a) => ticks[a as usize] = TICK,
+        StateNode::Step { moves, heres, .. } => tick_step(moves, heres, alternatives, ticks),
     }
 }
 
@@ -78,15 +70,8 @@ fn tick_dist(node: DistNode, terms: &[Term], ticks: &mut [u32])
             ticks[a as usize] = TICK;
             ticks[b as usize] = TICK;
         }
-        DistNode::Not(a) => {
-            ticks[a as usize] = TICK;
-        }
-        DistNode::Sum {
-            threshold: _,
-            terms: run,
-        } => {
-            tick_sum(run, terms, ticks);
-        }
+        DistNode::Not(a) => ticks[a as usize] = TICK,
+        DistNode::Sum { terms: run, .. } => tick_sum(run, terms, ticks),
     }
 }
 

@@ -27,10 +27,8 @@ fn see(node: Node) -> Seen
     ensures { shade result ≡ tone (line [] [] node) }
 {
     match node {
-        Node::State(StateNode::Yes) => Seen::Yes,
-        Node::State(StateNode::No) => Seen::No,
-        Node::Dist(DistNode::Yes) => Seen::Yes,
-        Node::Dist(DistNode::No) => Seen::No,
+        Node::State(StateNode::Yes) | Node::Dist(DistNode::Yes) => Seen::Yes,
+        Node::State(StateNode::No) | Node::Dist(DistNode::No) => Seen::No,
         _ => Seen::Open,
     }
 }
@@ -153,8 +151,7 @@ fn settle_and<N: Plain>(i: u32, a: u32, b: u32, before: Before) -> (u32, N)
 {
     let (left, right) = (before.map[a as usize], before.map[b as usize]);
     match (before.see(a), before.see(b)) {
-        (Seen::No, _) => (i, N::constant(false)),
-        (_, Seen::No) => (i, N::constant(false)),
+        (Seen::No, _) | (_, Seen::No) => (i, N::constant(false)),
         (Seen::Yes, Seen::Yes) => (i, N::constant(true)),
         (Seen::Yes, Seen::Open) => (right, N::constant(true)),
         (Seen::Open, Seen::Yes) => (left, N::constant(true)),

@@ -35,17 +35,17 @@ loop-i-preserved c =
       (E.lent.0 ∙ lent.0, E.lent.1 ∙ lent.1, E.lent.2 ∙ lent.2),
       (E.sizes.0 ∙ sizes.0, E.sizes.1 ∙ sizes.1, E.sizes.2 ∙ sizes.2),
       ⊎_elim
-      (λ (e : get_or c.loop-i.map c.loop-i.i 0 ≡ 1).
-      kept-turn (held c.args.tables.now) c.requires.packed c.args.map.now c.requires.closed
-      c.loop-i.i c.loop-i.used (held c.loop-i.tables) c.loop-i.map c.loop-i.invariant.2 c.loop-i-test.true
-      c.compact_at-used.result (held c.compact_at-used.new.tables) c.compact_at-used.new.map
-      room e (E.kept e))
-      (λ (e : get_or c.loop-i.map c.loop-i.i 0 ≡ 1 → ⊥).
-      gone_turn (held c.args.tables.now) c.requires.packed c.args.map.now c.requires.closed
-      c.loop-i.i c.loop-i.used (held c.loop-i.tables) c.loop-i.map c.loop-i.invariant.2 c.loop-i-test.true
-      c.compact_at-used.result (held c.compact_at-used.new.tables) c.compact_at-used.new.map
-      e (E.gone e))
-      (cases_eq (get_or c.loop-i.map c.loop-i.i 0) 1),
+          (λ (e : get_or c.loop-i.map c.loop-i.i 0 ≡ 1).
+          kept-turn (held c.args.tables.now) c.requires.packed c.args.map.now c.requires.closed
+          c.loop-i.i c.loop-i.used (held c.loop-i.tables) c.loop-i.map c.loop-i.invariant.2 c.loop-i-test.true
+          c.compact_at-used.result (held c.compact_at-used.new.tables) c.compact_at-used.new.map
+          room e (E.kept e))
+          (λ (e : get_or c.loop-i.map c.loop-i.i 0 ≡ 1 → ⊥).
+          gone_turn (held c.args.tables.now) c.requires.packed c.args.map.now c.requires.closed
+          c.loop-i.i c.loop-i.used (held c.loop-i.tables) c.loop-i.map c.loop-i.invariant.2 c.loop-i-test.true
+          c.compact_at-used.result (held c.compact_at-used.new.tables) c.compact_at-used.new.map
+          e (E.gone e))
+          (cases_eq (get_or c.loop-i.map c.loop-i.i 0) 1),
     )
 
 pub returns : goal.returns

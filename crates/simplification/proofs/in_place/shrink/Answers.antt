@@ -1,14 +1,14 @@
-use Rattle.std.proofs.Common.{[], get_or, sym, ap, ◌∙◌, arith}
-use Rattle.formulas.specs.Tables.{held, standing}
+use Rattle.std.proofs.Common.{rules, [], get_or, sym, ap, ◌∙◌, arith}
+use Rattle.formulas.specs.Tables.{slots, held, standing}
 use Rattle.simplification.specs.Simplify.{prune, simplify}
 use Rattle.simplification.specs.Tables.{padded}
 use Rattle.simplification.specs.Packed.{whole, filled}
-use Rattle.simplification.proofs.Shrinks.{packed-left, root-low, simplified-is, laid-fits, filled_is, filled-same}
+use Rattle.simplification.proofs.Shrinks.{packed-left, root-low, simplified-is, laid-fits, filled_is, filled-same, returned}
 use Rattle.simplification.proofs.in_place.shrink.Goals as goal
 
 pub cut-standing-requires : goal.cut-standing-requires
 cut-standing-requires c =
-    let s = held c.args.tables.now in
+    let s = slots c.args.nodes.now c.args.terms.now c.args.alternatives.now in
     let left = held c.settle.new.tables in
     let P = c.requires.packed in
     record {
@@ -35,7 +35,7 @@ tidy-requires c =
 
 pub returns : goal.returns
 returns c =
-    let s = held c.args.tables.now in
+    let s = slots c.args.nodes.now c.args.terms.now c.args.alternatives.now in
     let left = held c.settle.new.tables in
     let is = simplified-is s c.requires.packed left c.settle.ensures.tables c.args.map.now c.settle.new.map c.settle.ensures.map c.args.root c.requires.root in
     let blanked =
@@ -43,12 +43,7 @@ returns c =
     c.cut-standing.ensures.tables (ap (λ x. x.fills) c.cut-standing.ensures.answer) c.cut-standing.ensures.sizes.0 c.cut-standing.ensures.sizes.1 c.cut-standing.ensures.sizes.2
     (held c.tidy.new.tables) c.tidy.ensures.nodes c.tidy.ensures.terms c.tidy.ensures.alternatives in
     record {
-      lent = (
-        c.tidy.ensures.lent.0 ∙ (c.cut-standing.ensures.lent.0 ∙ c.settle.ensures.lent.0),
-        c.tidy.ensures.lent.1 ∙ (c.cut-standing.ensures.lent.1 ∙ c.settle.ensures.lent.1),
-        c.tidy.ensures.lent.2 ∙ (c.cut-standing.ensures.lent.2 ∙ c.settle.ensures.lent.2),
-      );
       answer = c.cut-standing.ensures.answer ∙ ap standing is;
-      tables = blanked ∙ (ap (λ G. filled G.lines left) is ∙ filled-same (simplify (whole c.args.root s)).lines s left c.settle.ensures.sizes.0 c.settle.ensures.sizes.1 c.settle.ensures.sizes.2);
+      tables = returned (search rules) (search rules) (search rules) ∙ (blanked ∙ (ap (λ G. filled G.lines left) is ∙ filled-same (simplify (whole c.args.root s)).lines s left c.settle.ensures.sizes.0 c.settle.ensures.sizes.1 c.settle.ensures.sizes.2));
       map = c.tidy.ensures.map ∙ ap (λ n. padded n 0 []) (c.cut-standing.auto.map ∙ c.settle.auto.map);
     }

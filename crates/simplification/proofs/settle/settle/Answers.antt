@@ -23,8 +23,8 @@ loop-i-preserved c =
       c.loop-i.invariant.0,
       (c.settle_at-ends.auto.nodes ∙ sizes.0, c.settle_at-ends.auto.terms ∙ sizes.1, c.settle_at-ends.auto.alternatives ∙ sizes.2),
       turn (held c.args.tables.now) c.requires.packed c.args.map.now c.requires.room
-      c.loop-i.i c.loop-i.ends.term c.loop-i.ends.alternative (held c.loop-i.tables) c.loop-i.map c.loop-i.invariant.2 c.loop-i-test.true
-      c.settle_at-ends.result.term c.settle_at-ends.result.alternative _ c.settle_at-ends.new.map c.settle_at-ends.ensures,
+          c.loop-i.i c.loop-i.ends.term c.loop-i.ends.alternative (held c.loop-i.tables) c.loop-i.map c.loop-i.invariant.2 c.loop-i-test.true
+          c.settle_at-ends.result.term c.settle_at-ends.result.alternative _ c.settle_at-ends.new.map c.settle_at-ends.ensures,
     )
 
 pub returns : goal.returns
