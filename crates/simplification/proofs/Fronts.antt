@@ -16,7 +16,7 @@ use Rattle.formulas.specs.WellFormed.{WellFormed}
 use Rattle.simplification.specs.Simplify.{simplify}
 use Rattle.simplification.specs.Laws.{Settles, Fewer}
 use Rattle.simplification.specs.Tables.{blank_node, blank_term, padded, renewed, Desk, desk, taken_up, Done, done, simplified}
-use Rattle.simplification.specs.Packed.{whole, Packed, filled, front_of, Ready}
+use Rattle.simplification.specs.Packed.{whole, filled, front_of, Ready}
 use Rattle.simplification.proofs.Laid.{length-nodes}
 use Rattle.simplification.proofs.Forms.{fitting_formed}
 use Rattle.simplification.proofs.Fewer.{fewer}

@@ -1,8 +1,7 @@
 -- Lists with some entries put in the place of others.
 use Rattle.std.proofs.Common.{◌≡◌, ℕ, ◌+◌, ◌-◌, ◌<◌, ◌≤◌, Bool, true, false, cond, Option, None, Some, List, [], ◌∷◌, ◌++◌, map, length, get_or, take, drop, set, replicate, filter, sym, refl, ap, ◌∙◌, subst, ap₂, add-zero, arith}
 use Rattle.std.specs.List.{AllByRecursion, cons_option}
-use Rattle.std.proofs.lemmas.List.{append_assoc, append-nil, map-append, length-append, length-map, length_push, length-take-le, length-drop, length-replicate, replicate_more, take-append-drop, take_at, drop_at, drop-drop, drop_all, drop_more, take_more, set_at, get_or-drop, get_or-take}
-use Rattle.std.proofs.lemmas.List.Elements.{filter-append}
+use Rattle.std.proofs.lemmas.List.{append_assoc, append-nil, length-append, length-map, length_push, length-take-le, length-drop, length-replicate, replicate_more, take-append-drop, take_at, drop_at, drop-drop, drop_all, drop_more, take_more, set_at, get_or-drop, get_or-take}
 use Rattle.std.proofs.ByRecursion.{All-get_or}
 use Rattle.std.proofs.lemmas.List.Sums.{length-filter, count_by-le-length}
 use Rattle.formulas.specs.Lines.{part}
