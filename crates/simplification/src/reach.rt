@@ -1,10 +1,9 @@
 // The second pass over the tables: what the root reaches is ticked.
-ghost use Rattle.std.specs.Prelude.{◌≡◌, ℕ, ◌<◌, [], ◌∷◌, ◌++◌, map, length, if◌then◌else◌, nat_eq, slice_index, slice_index_or};
+ghost use Rattle.std.specs.Prelude.{◌≡◌, ℕ, ◌<◌, [], ◌∷◌, ◌++◌, map, length, slice_index};
 ghost use Rattle.std.specs.List.{AllByRecursion};
 ghost use Rattle.formulas.specs.Lines.{entries, state_line, dist_line, line};
 ghost use Rattle.formulas.specs.Tables.{contents};
 ghost use Rattle.simplification.specs.Simplify.{parts, reached};
-ghost use Rattle.simplification.specs.Tables.{blank_node};
 ghost use Rattle.simplification.specs.Packed.{all_lines, Packed};
 ghost use Rattle.simplification.specs.Moving.{FitStep, FitSum, FitState, FitDist, Fit};
 ghost use Rattle.simplification.specs.Reaching.{ticked, Ticks};
@@ -85,19 +84,7 @@ fn tick_node(node: Node, tables: Tables, ticks: &mut [u32])
     }
 }
 
-// Ticks the parts of node `i` if it is ticked.
-fn reach_at(i: usize, tables: Tables, ticks: &mut [u32])
-    requires node { i < length tables.nodes.now }
-    requires tick { i < length ticks.old }
-    requires fit { Fit (λ d. d < length ticks.old) tables.terms.now tables.alternatives.now 0 0 (slice_index_or tables.nodes.now i blank_node) }
-    ensures { ticks.new ≡ (if nat_eq (slice_index ticks.old i) 1 then ticked ticks.old (parts (line tables.entry.terms.now tables.entry.alternatives.now (slice_index_or tables.entry.nodes.now i blank_node))) else ticks.old) }
-{
-    if ticks[i] == TICK {
-        tick_node(tables.nodes[i], tables, ticks);
-    }
-}
-
-// Ticks what the root reaches, from the last node to the first.
+// Ticks what the root reaches: from the last node to the first, the parts of each that is ticked.
 pub(crate) fn reach(root: u32, tables: Tables, ticks: &mut [u32])
     requires root { root < length ticks.old }
     requires long { length ticks.old ≡ length tables.nodes.now }
@@ -106,7 +93,9 @@ pub(crate) fn reach(root: u32, tables: Tables, ticks: &mut [u32])
     ensures { Ticks ticks.new (reached 0 (all_lines (contents tables.entry)) (root ∷ [])) }
 {
     ticks[root as usize] = TICK;
-    for i in (0..tables.nodes.len()).rev() {
-        reach_at(i, tables, ticks);
+    for (i, node) in tables.nodes.iter().enumerate().rev() {
+        if ticks[i] == TICK {
+            tick_node(*node, tables, ticks);
+        }
     }
 }
