@@ -2,9 +2,9 @@
 use Rattle.std.proofs.Common.{◌≡◌, ℕ, ◌-◌, ◌^◌, ◌<◌, ◌≤◌, Bool, true, cond, not, ◌&&◌, leb, List, [], ◌++◌, length, take, drop, replicate, Ok, Err, sym, refl, ap, ◌∙◌, subst, ap₂, arith}
 use Rattle.std.proofs.lemmas.List.{append_assoc, append-nil, drop_all, take_at, length-map, length-take-le}
 use Rattle.std.proofs.lemmas.Bool.{and_parts, leb-true, le-ltb}
+use Rattle.formulas.specs.declared.node.Fills.{Fills}
 use Rattle.formulas.specs.declared.node.Node.{Node}
 use Rattle.formulas.specs.declared.node.Term.{Term}
-use Rattle.formulas.specs.declared.node.Fills.{Fills}
 use Rattle.formulas.specs.declared.refusal.Refusal.TheVariants.{NoFormula, Short}
 use Rattle.formulas.specs.declared.tables.Standing.{Standing}
 use Rattle.formulas.specs.Lines.{Line, line, lines, Formula}
@@ -16,7 +16,7 @@ use Rattle.formulas.specs.WellFormed.{WellFormed}
 use Rattle.simplification.specs.Simplify.{simplify}
 use Rattle.simplification.specs.Laws.{Settles, Fewer}
 use Rattle.simplification.specs.Tables.{blank_node, blank_term, padded, renewed, Desk, desk, taken_up, Done, done, simplified}
-use Rattle.simplification.specs.Packed.{whole, Packed, filled, front_of, Ready}
+use Rattle.simplification.specs.Packed.{whole, filled, front_of, Ready}
 use Rattle.simplification.proofs.Laid.{length-nodes}
 use Rattle.simplification.proofs.Forms.{fitting_formed}
 use Rattle.simplification.proofs.Fewer.{fewer}
@@ -129,35 +129,21 @@ module _ (f : Fills) (root m : ℕ) (s : Slots) (held : stands_in f root m s ≡
       (cond short (done (Err Short) (desk s to)) (done (Ok (standing (simplify F))) (taken_up (simplify F) f (desk s to)))) in
       (λ i. done (Ok (e i)) (q i)) ∙ sym (ap₂ chosen held (le-ltb (length to) f.nodes r))
 
--- the front of the tables, with its ends written in another way
-module _ (f : Fills) (root : ℕ) (s : Slots) (to : List ℕ) (R : Ready f root s) (room : f.nodes ≤ length to) (g : Fills) (p : f ≡ g) where
-  pub front-packed : Packed (front_of g s)
-  front-packed = subst (λ (h : Fills). Packed (front_of h s)) p R.packed
+-- the front of the tables
+module _ (f : Fills) (root : ℕ) (s : Slots) (to : List ℕ) (R : Ready f root s) (room : f.nodes ≤ length to) where
+  pub front-nodes : length (take f.nodes s.nodes) ≡ f.nodes
+  front-nodes = length-take-le f.nodes s.nodes R.nodes
 
-  pub front-nodes : length (take g.nodes s.nodes) ≡ f.nodes
-  front-nodes = ap (λ (h : Fills). length (take h.nodes s.nodes)) (sym p) ∙ length-take-le f.nodes s.nodes R.nodes
+  pub front-numbers : length (take f.nodes to) ≡ f.nodes
+  front-numbers = length-take-le f.nodes to room
 
-  pub front-numbers : length (take g.nodes to) ≡ f.nodes
-  front-numbers = ap (λ (h : Fills). length (take h.nodes to)) (sym p) ∙ length-take-le f.nodes to room
-
-  module _ (s' : Slots) (to' : List ℕ) where
-    abbrev Gives : Fills → Type 0
-    Gives h =
-        s' ≡ filled (simplify (whole root (front_of h s))).lines (front_of h s) → to' ≡ padded (length (take h.nodes to)) 0 []
-        → desk (slots (s'.nodes ++ drop h.nodes s.nodes) (s'.terms ++ drop h.terms s.terms) (s'.alternatives ++ drop h.alternatives s.alternatives)) (to' ++ drop h.nodes to)
-        ≡ taken_up (simplify (formula_at f root s)) f (desk s to)
-
-    plain : Gives f
-    plain S N =
-        let L : List Line = (simplify (formula_at f root s)).lines in
-        let n = ap (λ x. x.nodes) S ∙ ap (λ k. padded k blank_node (node_table 0 0 L)) (length-take-le f.nodes s.nodes R.nodes) in
-        let t = ap (λ x. x.terms) S ∙ ap (λ k. padded k blank_term (term_table L)) (length-take-le f.terms s.terms R.terms) in
-        let a = ap (λ x. x.alternatives) S ∙ ap (λ k. padded k 0 (alternative_table L)) (length-take-le f.alternatives s.alternatives R.alternatives) in
-        let k = N ∙ ap (λ k. padded k 0 []) (length-take-le f.nodes to room) in
-        λ i. desk (slots (n i ++ drop f.nodes s.nodes) (t i ++ drop f.terms s.terms) (a i ++ drop f.alternatives s.alternatives)) (k i ++ drop f.nodes to)
-
-    pub front-left : Gives g
-    front-left = subst Gives p plain
-
-  pub front-answer : (x : Standing) → x ≡ standing (simplify (whole root (front_of g s))) → x ≡ standing (simplify (formula_at f root s))
-  front-answer x e = e ∙ ap (λ (h : Fills). standing (simplify (formula_at h root s))) (sym p)
+  pub front-left : (s' : Slots) (to' : List ℕ) → s' ≡ filled (simplify (whole root (front_of f s))).lines (front_of f s) → to' ≡ padded (length (take f.nodes to)) 0 []
+      → desk (slots (s'.nodes ++ drop f.nodes s.nodes) (s'.terms ++ drop f.terms s.terms) (s'.alternatives ++ drop f.alternatives s.alternatives)) (to' ++ drop f.nodes to)
+      ≡ taken_up (simplify (formula_at f root s)) f (desk s to)
+  front-left s' to' S N =
+      let L : List Line = (simplify (formula_at f root s)).lines in
+      let n = ap (λ x. x.nodes) S ∙ ap (λ k. padded k blank_node (node_table 0 0 L)) front-nodes in
+      let t = ap (λ x. x.terms) S ∙ ap (λ k. padded k blank_term (term_table L)) (length-take-le f.terms s.terms R.terms) in
+      let a = ap (λ x. x.alternatives) S ∙ ap (λ k. padded k 0 (alternative_table L)) (length-take-le f.alternatives s.alternatives R.alternatives) in
+      let k = N ∙ ap (λ k. padded k 0 []) front-numbers in
+      λ i. desk (slots (n i ++ drop f.nodes s.nodes) (t i ++ drop f.terms s.terms) (a i ++ drop f.alternatives s.alternatives)) (k i ++ drop f.nodes to)

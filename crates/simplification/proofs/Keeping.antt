@@ -1,39 +1,9 @@
--- What is left of a run: entries that pass are moved down.
-use Rattle.std.proofs.Common.{◌≡◌, ℕ, ◌+◌, ◌-◌, ◌<◌, ◌≤◌, Bool, true, false, cond, List, [], ◌∷◌, map, length, get_or, take, set, sum_by, filter, sym, refl, ap, ◌∙◌, arith}
-use Rattle.std.specs.List.{AllByRecursion}
+-- What a sum is left with.
+use Rattle.std.proofs.Common.{◌≡◌, ℕ, ◌+◌, ◌-◌, ◌<◌, Bool, true, false, cond, List, [], ◌∷◌, map, length, get_or, take, sum_by, filter, sym, refl, ap, ◌∙◌, arith}
 use Rattle.std.proofs.lemmas.List.Elements.{filter_more}
 use Rattle.std.proofs.lemmas.List.Sums.{sum_by-cons, sum_by-append}
-use Rattle.formulas.specs.declared.node.Run.{Run}
 use Rattle.formulas.specs.declared.node.Term.{Term}
-use Rattle.formulas.specs.Lines.{entries}
 use Rattle.simplification.specs.Simplify.{Tone, yes, no, neither, Outcome, tone_of, is_yes, is_no, is_neither, coefficients, retarget, terms_left, yes_part}
-use Rattle.simplification.proofs.Puts.{Moving, moving-low, moving-at, moving-read, moving-take, moving_skip}
-
--- a loop over the run r, from the table xs into ys, at entry k
-module _ {X : Type 0} (f : X → Bool) (g : X → X) (xs ys : List X) (r : Run) (s k w : ℕ) (m : Moving f g xs ys r.first s k w)
-    (past : s ≤ r.first) (within : r.first + r.count ≤ length xs) (turn : k < r.count) where
-  inside : r.first + k < length xs
-  inside = omega arith
-
-  pub entry_at : (P : X → Type 0) (d : X) → AllByRecursion P (entries xs r) → P (get_or ys (r.first + k) d)
-  entry_at P d a = moving-at f g xs r.first s ys k w m past inside P d r.count within turn a
-
-  pub end_low : w ≤ r.first + k
-  end_low = moving-low f g xs r.first s ys k w m past inside
-
-  entry-same : (d : X) → get_or ys (r.first + k) d ≡ get_or xs (r.first + k) d
-  entry-same d = moving-read f g xs r.first s ys k w m past inside d
-
-  pub turn-take : (d y : X) (ys' : List X) (w' : ℕ) → f (get_or ys (r.first + k) d) ≡ true → y ≡ g (get_or ys (r.first + k) d) → ys' ≡ set ys w y → w' ≡ w + 1
-      → Moving f g xs ys' r.first s (k + 1) w'
-  turn-take d y ys' w' t v e q =
-      let m' = moving-take f g xs r.first s ys k w m past inside d y (ap f (sym (entry-same d)) ∙ t) (v ∙ ap g (entry-same d)) in
-      record { is = e ∙ m'.is; end = q ∙ m'.end }
-
-  pub turn_skip : (d : X) (ys' : List X) (w' : ℕ) → f (get_or ys (r.first + k) d) ≡ false → ys' ≡ ys → w' ≡ w → Moving f g xs ys' r.first s (k + 1) w'
-  turn_skip d ys' w' t e q =
-      let m' = moving_skip f g xs r.first s ys k w m past inside d (ap f (sym (entry-same d)) ∙ t) in
-      record { is = e ∙ m'.is; end = q ∙ m'.end }
 
 -- sums over what is kept
 module _ {X : Type 0} (f : X → Bool) (c : X → ℕ) where

@@ -1,7 +1,7 @@
 -- Lists: what holds of each element, tests of some element, and lists that grow by what stands in them so far.
-use Rattle.std.proofs.Common.{◌≡◌, ℕ, zero, suc, ◌+◌, ◌<◌, ◌≤◌, Bool, true, false, cond, ◌||◌, List, [], ◌∷◌, ◌++◌, map, length, get_or, drop, fold, filter, sym, refl, ap, ◌∙◌, subst, ap₂, le_of_suc-le-suc, not-suc-le-zero, arith}
-use Rattle.std.specs.List.{AllByRecursion}
-use Rattle.std.proofs.lemmas.List.{length_push, get_or_append_left, get_or_push, at_drop_more, at_drop_all}
+use Rattle.std.proofs.Common.{◌≡◌, ℕ, zero, suc, ◌+◌, ◌<◌, Bool, true, false, cond, ◌||◌, List, [], ◌∷◌, ◌++◌, map, length, get_or, fold, filter, sym, refl, ap, ◌∙◌, subst, ap₂, le_of_suc-le-suc, not-suc-le-zero, arith}
+use Rattle.std.specs.List.{AllByRecursion, list_any}
+use Rattle.std.proofs.lemmas.List.{length_push, get_or_append_left, get_or_push}
 use Rattle.formulas.specs.Truths.{any}
 
 module _ {X : Type 0} (P : X → Type 0) where
@@ -21,16 +21,9 @@ module _ {X : Type 0} (P : X → Type 0) where
   all_of_map f [] h = tt
   all_of_map f (y ∷ ys) h = (h.0, all_of_map f ys h.1)
 
--- a search: none before the place i passes
-module _ {X : Type 0} (p : X → Bool) (xs : List X) (i : ℕ) where
-  pub any_hit : (d : X) → any p xs ≡ any p (drop i xs) → i < length xs → p (get_or xs i d) ≡ true → true ≡ any p xs
-  any_hit d before h e = sym (before ∙ at_drop_more (any p) xs i d h ∙ ap (λ b. b || any p (drop (i + 1) xs)) e)
-
-  pub any_miss : (d : X) → any p xs ≡ any p (drop i xs) → i < length xs → p (get_or xs i d) ≡ false → any p xs ≡ any p (drop (i + 1) xs)
-  any_miss d before h e = before ∙ at_drop_more (any p) xs i d h ∙ ap (λ b. b || any p (drop (i + 1) xs)) e
-
-  pub any_none : any p xs ≡ any p (drop i xs) → length xs ≤ i → false ≡ any p xs
-  any_none before h = sym (before ∙ at_drop_all (any p) xs i h)
+pub any-is : {X : Type 0} (p : X → Bool) (xs : List X) → list_any p xs ≡ any p xs
+any-is p [] = refl
+any-is p (x ∷ xs) = ap (λ b. p x || b) (any-is p xs)
 
 pub any_same : {X : Type 0} (f g : X → Bool) (xs : List X) → AllByRecursion (λ x. f x ≡ g x) xs → any f xs ≡ any g xs
 any_same f g [] h = refl

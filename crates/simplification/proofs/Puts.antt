@@ -1,13 +1,12 @@
 -- Lists with some entries put in the place of others.
-use Rattle.std.proofs.Common.{◌≡◌, ℕ, ◌+◌, ◌-◌, ◌<◌, ◌≤◌, Bool, true, false, cond, List, [], ◌∷◌, ◌++◌, map, length, get_or, take, drop, set, replicate, filter, sym, refl, ap, ◌∙◌, subst, ap₂, add-zero, arith}
-use Rattle.std.specs.List.{AllByRecursion}
-use Rattle.std.proofs.lemmas.List.{append_assoc, append-nil, map-append, length-append, length-map, length_push, length-take-le, length-drop, length-replicate, replicate_more, take-append-drop, take_at, drop_at, drop-drop, drop_all, drop_more, take_more, set_at, get_or-drop, get_or-take}
-use Rattle.std.proofs.lemmas.List.Elements.{filter-append}
+use Rattle.std.proofs.Common.{◌≡◌, ℕ, ◌+◌, ◌-◌, ◌<◌, ◌≤◌, Bool, true, false, cond, Option, None, Some, List, [], ◌∷◌, ◌++◌, map, length, get_or, take, drop, set, replicate, filter, sym, refl, ap, ◌∙◌, subst, ap₂, add-zero, arith}
+use Rattle.std.specs.List.{AllByRecursion, cons_option}
+use Rattle.std.proofs.lemmas.List.{append_assoc, append-nil, length-append, length-map, length_push, length-take-le, length-drop, length-replicate, replicate_more, take-append-drop, take_at, drop_at, drop-drop, drop_all, drop_more, take_more, set_at, get_or-drop, get_or-take}
 use Rattle.std.proofs.ByRecursion.{All-get_or}
 use Rattle.std.proofs.lemmas.List.Sums.{length-filter, count_by-le-length}
 use Rattle.formulas.specs.Lines.{part}
 use Rattle.formulas.specs.Tables.{over}
-use Rattle.simplification.specs.Moving.{put}
+use Rattle.simplification.specs.Moving.{put, Leaves, Moved}
 
 module _ {X : Type 0} where
   -- the plain form, also with nothing to put
@@ -126,58 +125,103 @@ module _ {X : Type 0} (old : List X) (p : ℕ) (x : X) where
       ∙ (put_is p (replicate n x) old
       ∙ ap (λ ys. take p old ++ ys) (ap (λ ys. replicate n x ++ ys) (drop_all (p + length (replicate n x)) old end) ∙ append-nil (replicate n x))))
 
-pub kept-all : {X : Type 0} (xs : List X) → filter (λ _. true) xs ≡ xs
+-- what R leaves of entries that are looked at one after another
+module _ {X : Type 0} (R : X → Option X → Type 0) where
+  pub left-few : (xs ys : List X) → Leaves R xs ys → length ys ≤ length xs
+  left-few [] ys e = omega (arith, ap length e)
+  left-few (x ∷ xs) ys (None, zs, r, l, e) = omega (arith, left-few xs zs l, ap length e)
+  left-few (x ∷ xs) ys (Some y, zs, r, l, e) = omega (arith, left-few xs zs l, ap length e)
+
+  pub left-more : (xs ys : List X) (x : X) (o : Option X) → Leaves R xs ys → R x o → Leaves R (xs ++ (x ∷ [])) (ys ++ cons_option o [])
+  left-more [] ys x o e r = (o, [], r, refl, ap (λ l. l ++ cons_option o []) e)
+  left-more (z ∷ xs) ys x o (None, zs, q, l, e) r = (None, zs ++ cons_option o [], q, left-more xs zs x o l r, ap (λ l. l ++ cons_option o []) e)
+  left-more (z ∷ xs) ys x o (Some y, zs, q, l, e) r = (Some y, zs ++ cons_option o [], q, left-more xs zs x o l r, ap (λ l. l ++ cons_option o []) e)
+
+-- where it leaves what f and g tell, that is the entries that pass f, changed by g
+pub left-is : {X : Type 0} (R : X → Option X → Type 0) (f : X → Bool) (g : X → X) (xs ys : List X)
+    → AllByRecursion (λ x. (o : Option X) → R x o → o ≡ cond (f x) (Some (g x)) None) xs → Leaves R xs ys → ys ≡ map g (filter f xs)
+left-is R f g [] ys h e = e
+left-is R f g (x ∷ xs) ys h (o, zs, r, l, e) =
+    e ∙ (ap₂ (λ (o : Option _) (ws : List _). cons_option o ws) (h.0 o r) (left-is R f g xs zs h.1 l) ∙ passes (f x))
+  where
+    passes : (b : Bool) → cons_option (cond b (Some (g x)) None) (map g (filter f xs)) ≡ map g (cond b (x ∷ filter f xs) (filter f xs))
+    passes true = refl
+    passes false = refl
+
+-- the same of what is moved
+pub moved-is : {X : Type 0} (R : X → Option X → Type 0) (f : X → Bool) (g : X → X) (xs : List X) (p : ℕ) (old : List X) (e : ℕ) (new : List X) (m : Moved R xs p old e new)
+    → AllByRecursion (λ x. (o : Option X) → R x o → o ≡ cond (f x) (Some (g x)) None) xs
+    → (e ≡ p + length (map g (filter f xs))) × (new ≡ put p (map g (filter f xs)) old)
+moved-is R f g xs p old e new m h =
+    let same = left-is R f g xs m.left h m.each in
+    (m.end ∙ ap (λ l. p + length l) same, m.is ∙ ap (λ l. put p l old) same)
+
+kept-all : {X : Type 0} (xs : List X) → filter (λ _. true) xs ≡ xs
 kept-all [] = refl
 kept-all (x ∷ xs) = ap (λ r. x ∷ r) (kept-all xs)
 
--- entries from the place p on are moved down to the place s, those that pass, changed by g: n of them are looked at, and w is where they end
-pub record Moving {X : Type 0} (f : X → Bool) (g : X → X) (xs ys : List X) (p s n w : ℕ) : Type 0 where
-  pub is : ys ≡ put s (map g (filter f (part xs p n))) xs
-  pub end : w ≡ s + length (map g (filter f (part xs p n)))
+-- the same where something is left of each entry
+pub moved-all : {X : Type 0} (R : X → Option X → Type 0) (g : X → X) (xs : List X) (p : ℕ) (old : List X) (e : ℕ) (new : List X) (m : Moved R xs p old e new)
+    → AllByRecursion (λ x. (o : Option X) → R x o → o ≡ Some (g x)) xs
+    → (e ≡ p + length (map g xs)) × (new ≡ put p (map g xs) old)
+moved-all R g xs p old e new m h =
+    let moved = moved-is R (λ _. true) g xs p old e new m h in
+    let every = kept-all xs in
+    (moved.0 ∙ ap (λ l. p + length (map g l)) every, moved.1 ∙ ap (λ l. put p (map g l) old) every)
 
-module _ {X : Type 0} (f : X → Bool) (g : X → X) (xs : List X) (p s : ℕ) where
-  pub moved-few : (n : ℕ) → p + n ≤ length xs → length (map g (filter f (part xs p n))) ≤ n
-  moved-few n h =
-      omega (arith, length-map (filter f (part xs p n)) g, length-filter f (part xs p n), count_by-le-length f (part xs p n), length_part xs p n h)
+pub moved-few : {X : Type 0} (f : X → Bool) (g : X → X) (xs : List X) (p n : ℕ) → p + n ≤ length xs → length (map g (filter f (part xs p n))) ≤ n
+moved-few f g xs p n h =
+    omega (arith, length-map (filter f (part xs p n)) g, length-filter f (part xs p n), count_by-le-length f (part xs p n), length_part xs p n h)
 
-  pub moving-none : Moving f g xs xs p s 0 s
-  moving-none = record { is = refl; end = omega arith }
+-- what R leaves of the entries from the place p to the place q is moved down to the place s, and w is where it ends
+abbrev pub Moving : {X : Type 0} → (X → Option X → Type 0) → List X → List X → ℕ → ℕ → ℕ → ℕ → Type 0
+Moving R xs ys p s q w = Moved R (part xs p (q - p)) s xs w ys
 
-  module _ (ys : List X) (n w : ℕ) (m : Moving f g xs ys p s n w) (past : s ≤ p) (h : p + n < length xs) where
-    few : length (map g (filter f (part xs p n))) ≤ n
-    few = moved-few n (omega arith)
+module _ {X : Type 0} (R : X → Option X → Type 0) (xs : List X) (p s : ℕ) where
+  pub moving-none : Moving R xs xs p s p s
+  moving-none =
+      let none : p - p ≡ 0 = omega arith in
+      let e : part xs p (p - p) ≡ [] = ap (part xs p) none in
+      record { left = []; each = subst (λ l. Leaves R l []) (sym e) refl; end = omega arith; is = refl }
 
-    pub moving-low : w ≤ p + n
+  module _ (ys : List X) (q w : ℕ) (m : Moving R xs ys p s q w) (past : s ≤ p) (low : p ≤ q) (h : q < length xs) where
+    few : length m.left ≤ q - p
+    few = omega (arith, left-few R (part xs p (q - p)) m.left m.each, length_part xs p (q - p) (omega arith))
+
+    pub moving-low : w ≤ q
     moving-low = omega (arith, few, m.end)
 
-    pub moving-read : (d : X) → get_or ys (p + n) d ≡ get_or xs (p + n) d
-    moving-read d = ap (λ l. get_or l (p + n) d) m.is ∙ get_or_put s (p + n) (map g (filter f (part xs p n))) xs d (omega arith) (omega (arith, few))
+    pub moving-read : (d : X) → get_or ys q d ≡ get_or xs q d
+    moving-read d = ap (λ l. get_or l q d) m.is ∙ get_or_put s q m.left xs d (omega arith) (omega (arith, few))
 
-    pub moving-at : (P : X → Type 0) (d : X) (count : ℕ) → p + count ≤ length xs → n < count → AllByRecursion P (part xs p count) → P (get_or ys (p + n) d)
-    moving-at P d count l b a =
-        subst P (part_at xs p count n d b ∙ sym (moving-read d)) (All-get_or P (part xs p count) n d (omega (arith, length_part xs p count l)) a)
+    pub moving-at : (P : X → Type 0) (count : ℕ) → p + count ≤ length xs → q < p + count → AllByRecursion P (part xs p count) → (d : X) → d ≡ get_or ys q d → P d
+    moving-at P count l b a d e =
+        let n = q - p in
+        let here : p + n ≡ q = omega arith in
+        subst P (part_at xs p count n d (omega arith) ∙ (ap (λ k. get_or xs k d) here ∙ (sym (moving-read d) ∙ sym e)))
+        (All-get_or P (part xs p count) n d (omega (arith, length_part xs p count l)) a)
 
-    grows : (d : X) (b : Bool) → f (get_or xs (p + n) d) ≡ b
-        → map g (filter f (part xs p (n + 1))) ≡ map g (filter f (part xs p n)) ++ map g (cond b (get_or xs (p + n) d ∷ []) [])
-    grows d b e =
-        ap (λ l. map g (filter f l)) (part-more xs p n d h)
-        ∙ (ap (map g) (filter-append f (part xs p n) (get_or xs (p + n) d ∷ []) ∙ ap (λ b. filter f (part xs p n) ++ cond b (get_or xs (p + n) d ∷ []) []) e)
-        ∙ map-append g (filter f (part xs p n)) (cond b (get_or xs (p + n) d ∷ []) []))
+    grows : (d : X) → d ≡ get_or ys q d → (o : Option X) → R d o → Leaves R (part xs p ((q + 1) - p)) (m.left ++ cons_option o [])
+    grows d e o r =
+        let n = q - p in
+        let here : p + n ≡ q = omega arith in
+        let next : (q + 1) - p ≡ n + 1 = omega arith in
+        let more = ap (part xs p) next ∙ (part-more xs p n d (omega arith) ∙ ap (λ k. part xs p n ++ (get_or xs k d ∷ [])) here) in
+        subst (λ l. Leaves R l (m.left ++ cons_option o [])) (sym more)
+        (left-more R (part xs p n) m.left (get_or xs q d) o m.each (subst (λ x. R x o) (e ∙ moving-read d) r))
 
-    pub moving-take : (d y : X) → f (get_or xs (p + n) d) ≡ true → y ≡ g (get_or xs (p + n) d) → Moving f g xs (set ys w y) p s (n + 1) (w + 1)
-    moving-take d y e v =
-        let old = map g (filter f (part xs p n)) in
-        let more = grows d true e in
-        record {
-          is = ap₂ (λ (l : List X) (k : ℕ). set l k y) m.is m.end ∙ (put-more s old xs y (omega (arith, few)) ∙ ap (λ l. put s l xs) (ap (λ z. old ++ (z ∷ [])) v ∙ sym more));
-          end = omega (arith, m.end, ap length more, length_push old (g (get_or xs (p + n) d)));
-        }
+    pub moving-take : (d : X) → d ≡ get_or ys q d → (y : X) → R d (Some y) → (ys' : List X) (w' : ℕ) → ys' ≡ set ys w y → w' ≡ w + 1 → Moving R xs ys' p s (q + 1) w'
+    moving-take d e y r ys' w' u v = record {
+      left = m.left ++ (y ∷ []);
+      each = grows d e (Some y) r;
+      end = omega (arith, v, m.end, length_push m.left y);
+      is = u ∙ (ap₂ (λ (l : List X) (k : ℕ). set l k y) m.is m.end ∙ put-more s m.left xs y (omega (arith, few)));
+    }
 
-    pub moving_skip : (d : X) → f (get_or xs (p + n) d) ≡ false → Moving f g xs ys p s (n + 1) w
-    moving_skip d e =
-        let old = map g (filter f (part xs p n)) in
-        let more = grows d false e ∙ append-nil old in
-        record { is = m.is ∙ ap (λ l. put s l xs) (sym more); end = m.end ∙ ap (λ l. s + length l) (sym more) }
-
-  pub moving-all : (ys : List X) (n w : ℕ) → Moving f g xs ys p s n w → (k : ℕ) → n ≡ k → Moving f g xs ys p s k w
-  moving-all ys n w m k e = subst (λ j. Moving f g xs ys p s j w) e m
+    pub moving_skip : (d : X) → d ≡ get_or ys q d → R d None → (ys' : List X) (w' : ℕ) → ys' ≡ ys → w' ≡ w → Moving R xs ys' p s (q + 1) w'
+    moving_skip d e r ys' w' u v = record {
+      left = m.left;
+      each = subst (λ l. Leaves R (part xs p ((q + 1) - p)) l) (append-nil m.left) (grows d e None r);
+      end = v ∙ m.end;
+      is = u ∙ m.is;
+    }

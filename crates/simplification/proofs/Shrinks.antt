@@ -3,6 +3,8 @@ use Rattle.std.proofs.Common.{◌≡◌, ℕ, ◌-◌, ◌^◌, ◌<◌, ◌≤�
 use Rattle.std.proofs.lemmas.List.{length-map, length-append, get_or-map, get_or_append_left, drop_at, drop_all, append-nil, take_at, ext_get_or}
 use Rattle.std.proofs.ByRecursion.{All-weaker}
 use Rattle.formulas.specs.declared.node.Fills.{Fills}
+use Rattle.formulas.specs.declared.node.Node.{Node}
+use Rattle.formulas.specs.declared.node.Term.{Term}
 use Rattle.formulas.specs.Lines.{state, Line, constant, line}
 use Rattle.formulas.specs.Layout.{node_table, term_table, alternative_table, fills}
 use Rattle.formulas.specs.Right.{Below, Formed}
@@ -128,3 +130,7 @@ module _ (L : List Line) (s s' : Slots) (f : Fills) (S : s' ≡ laid L s) (U : f
 pub filled-same : (L : List Line) (s s' : Slots) → length s'.nodes ≡ length s.nodes → length s'.terms ≡ length s.terms → length s'.alternatives ≡ length s.alternatives
     → filled L s' ≡ filled L s
 filled-same L s s' n t a = λ i. slots (padded (n i) blank_node (node_table 0 0 L)) (padded (t i) blank_term (term_table L)) (padded (a i) 0 (alternative_table L))
+
+-- what was lent of each table is what the tables hold
+pub returned : {ns ns' : List Node} {ks ks' : List Term} {ds ds' : List ℕ} → ns ≡ ns' → ks ≡ ks' → ds ≡ ds' → slots ns ks ds ≡ slots ns' ks' ds'
+returned n k d = λ i. slots (n i) (k i) (d i)

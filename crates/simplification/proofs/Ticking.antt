@@ -1,7 +1,7 @@
 -- Ticks: those asked for, and what the root reaches.
-use Rattle.std.proofs.Common.{◌≡◌, ℕ, ◌+◌, ◌<◌, ◌≤◌, Bool, true, false, cond, ◌||◌, eqb, ◌⊎◌, List, [], ◌∷◌, ◌++◌, length, get_or, drop, set, sym, refl, ap, ◌∙◌, inl, inr, arith, length-set}
+use Rattle.std.proofs.Common.{◌≡◌, ℕ, ◌+◌, ◌<◌, ◌≤◌, Bool, true, false, cond, ◌||◌, eqb, ◌⊎◌, List, [], ◌∷◌, ◌++◌, length, get_or, take, drop, set, sym, refl, ap, ◌∙◌, inl, inr, arith, length-set}
 use Rattle.std.specs.List.{AllByRecursion}
-use Rattle.std.proofs.lemmas.List.{get_or-set_same, get_or-set_other, drop_all}
+use Rattle.std.proofs.lemmas.List.{get_or-set_same, get_or-set_other, drop_all, length_push, get_or-take, get_or_push, take_at, take-take}
 use Rattle.std.proofs.ByRecursion.{All-weaker}
 use Rattle.std.proofs.lemmas.Bool.{eq-eqb, ne_eqb, cases_eq}
 use Rattle.formulas.specs.Lines.{Line}
@@ -34,6 +34,21 @@ ticked-at m (k ∷ ks) j h =
 ticked-long : (m ks : List ℕ) → length (ticked m ks) ≡ length m
 ticked-long m [] = refl
 ticked-long m (k ∷ ks) = ticked-long (set m k 1) ks ∙ length-set m k 1
+
+-- of the first entries of a list, the last is at its place, and those before it are the first again
+module _ {X : Type 0} (ns rest more : List X) (x : X) (p : more ≡ rest ++ (x ∷ [])) (q : more ≡ take (length more) ns) where
+  pub last-long : length more ≡ length rest + 1
+  last-long = ap length p ∙ length_push rest x
+
+  pub last-is : (d : X) → get_or ns (length rest) d ≡ x
+  last-is d =
+      sym (get_or-take (length more) ns (length rest) d (omega (arith, last-long)))
+      ∙ (ap (λ l. get_or l (length rest) d) (sym q ∙ p) ∙ get_or_push rest x d (length rest) refl)
+
+  pub last-front : rest ≡ take (length rest) ns
+  last-front =
+      sym (take_at rest (x ∷ []) (length rest) refl)
+      ∙ (ap (take (length rest)) (sym p ∙ q) ∙ take-take (length rest) (length more) ns (omega (arith, last-long)))
 
 -- one line back
 module _ (ls : List Line) (r : List ℕ) (i : ℕ) (h : i < length ls) where

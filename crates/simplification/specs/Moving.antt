@@ -1,6 +1,6 @@
 -- Moving what is left of a node's entries down in the tables.
-use Rattle.std.specs.Prelude.{◌≡◌, ℕ, ◌+◌, ◌^◌, ◌<◌, ◌≤◌, List, [], ◌∷◌, ◌++◌, length, take, drop}
-use Rattle.std.specs.List.{AllByRecursion}
+use Rattle.std.specs.Prelude.{◌≡◌, ℕ, ◌+◌, ◌^◌, ◌<◌, ◌≤◌, Option, List, [], ◌∷◌, ◌++◌, length, take, drop}
+use Rattle.std.specs.List.{AllByRecursion, cons_option}
 use Rattle.formulas.specs.declared.node.Node.{Node}
 use Rattle.formulas.specs.declared.node.Node.TheVariants.{State, Dist}
 use Rattle.formulas.specs.declared.node.StateNode.{StateNode}
@@ -49,6 +49,24 @@ Fit Q ts alts t a (Dist x) = FitDist Q ts t x
 abbrev pub put : {X : Type 0} → ℕ → List X → List X → List X
 put p [] old = old
 put p (x ∷ new) old = take p old ++ ((x ∷ new) ++ drop (p + length (x ∷ new)) old)
+
+-- ys is what R leaves of each of xs: an entry, or nothing
+abbrev pub Leaves : {X : Type 0} → (X → Option X → Type 0) → List X → List X → Type 0
+Leaves R [] ys = ys ≡ []
+Leaves {X} R (x ∷ xs) ys = (o : Option X) × (zs : List X) × R x o × Leaves R xs zs × (ys ≡ cons_option o zs)
+
+-- what R leaves of these entries is moved to the place p, and e is where it ends
+pub record Moved {X : Type 0} (R : X → Option X → Type 0) (xs : List X) (p : ℕ) (old : List X) (e : ℕ) (new : List X) : Type 0 where
+  pub left : List X
+  pub each : Leaves R xs left
+  pub end : e ≡ p + length left
+  pub is : new ≡ put p left old
+
+-- the node n stands for the line l at any place, and has no entries
+pub record Bare (n : Node) (l : Line) : Type 0 where
+  pub is : (t a : ℕ) → n ≡ node t a l
+  pub terms : terms_in l ≡ []
+  pub alternatives : alternatives_in l ≡ []
 
 -- the line l at the place p: n is its node, and e is where its entries end
 pub record StateAt (l : Line) (p : ℕ) (alts : List ℕ) (n : StateNode) (e : ℕ) (alts' : List ℕ) : Type 0 where

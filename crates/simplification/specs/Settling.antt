@@ -3,6 +3,7 @@ use Rattle.std.specs.Prelude.{◌≡◌, ℕ, ◌-◌, ◌<◌, true, false, con
 use Rattle.formulas.specs.declared.node.Node.{Node}
 use Rattle.formulas.specs.Lines.{Sort, state, Line, constant, both, non, step, sum, line}
 use Rattle.formulas.specs.Tables.{Slots}
+use Rattle.simplification.specs.declared.settle.Before.{Before}
 use Rattle.simplification.specs.declared.settle.Seen.{Seen}
 use Rattle.simplification.specs.declared.settle.Seen.TheVariants as see
 use Rattle.simplification.specs.Simplify.{Tone, yes, no, neither, tone_of, Outcome, became, non_line, step_line, sum_line, alternatives_left, has_yes, terms_left, yes_part, blank, outcomes}
@@ -40,6 +41,13 @@ leaves E (sum t ks) = sum_line (t - yes_part E ks) (terms_left E ks)
 -- the map leads from j to a node
 abbrev pub Led : List Node → List ℕ → ℕ → Type 0
 Led ns to j = (j < length to) × (slice_index to j < length ns)
+
+-- the same as the code has it
+abbrev pub glance_of : Before → ℕ → Outcome
+glance_of b = glance b.nodes.now b.map.now
+
+abbrev pub LedBy : Before → ℕ → Type 0
+LedBy b = Led b.nodes.now b.map.now
 
 -- node i becomes what is left of its line, at the places t and a, and the map gets its number
 pub record SettledAt (i t a : ℕ) (s : Slots) (to : List ℕ) (t' a' : ℕ) (s' : Slots) (to' : List ℕ) : Type 0 where

@@ -1,5 +1,5 @@
 -- What simplifying a formula in its own tables answers, and what it leaves there.
-use Rattle.std.specs.Prelude.{ℕ, ◌-◌, cond, not, List, [], ◌++◌, length, drop, replicate, Ok, Err, Result, nat_lt}
+use Rattle.std.specs.Prelude.{◌≡◌, ℕ, ◌-◌, cond, not, List, [], ◌++◌, length, drop, replicate, Ok, Err, Result, nat_lt}
 use Rattle.formulas.specs.declared.node.Node.{Node}
 use Rattle.formulas.specs.declared.node.Node.TheVariants.{State}
 use Rattle.formulas.specs.declared.node.StateNode as sn
@@ -27,6 +27,13 @@ blank_node = State sn.TheVariants.Yes
 
 abbrev pub blank_term : Term
 blank_term = record { coefficient = 0; node = 0 }
+
+-- tables as long as these
+abbrev pub SameSizes : Slots → Slots → Type 0
+SameSizes s t =
+    (length t.nodes ≡ length s.nodes)
+    × (length t.terms ≡ length s.terms)
+    × (length t.alternatives ≡ length s.alternatives)
 
 -- these entries, then blanks for the rest of n entries
 abbrev pub padded : {X : Type 0} → ℕ → X → List X → List X

@@ -1,36 +1,42 @@
 // Simplification of a formula in its own tables.
 ghost use Rattle.std.specs.Prelude.{◌≡◌, ◌-◌, ◌<◌, ◌≤◌, [], ◌++◌, length, take, replicate};
-ghost use Rattle.formulas.specs.Tables.{slots, laid, formula_at, standing as standing_of};
+ghost use Rattle.formulas.specs.Tables.{slots, SameLoans, contents, held, laid, formula_at, standing as standing_of};
 ghost use Rattle.simplification.specs.Simplify.{prune, simplify};
-ghost use Rattle.simplification.specs.Tables.{blank_node, blank_term, padded, desk, taken_up, done, simplified, NoMore, SettlesIn};
+ghost use Rattle.simplification.specs.Tables.{blank_node, blank_term, SameSizes, padded, desk, taken_up, done, simplified, NoMore, SettlesIn};
 ghost use Rattle.simplification.specs.Packed.{whole, Packed, filled, Ready};
 
-use crate::blank::blank;
 use crate::compact::compact;
 use crate::reach::reach;
 use crate::settle::settle;
 use formulas::node::{Fills, Node, StateNode, Term};
 use formulas::refusal::Refusal;
 use formulas::stands::{formula_in, layout_stands, tables_stand};
-use formulas::tables::{Standing, Tables};
+use formulas::tables::{Standing, Tables, TablesMut};
+
+// The tables, to be read.
+fn shared<'a>(tables: &'a TablesMut<'_>) -> Tables<'a>
+    ensures { contents result ≡ held tables.now }
+{
+    Tables {
+        nodes: tables.nodes,
+        terms: tables.terms,
+        alternatives: tables.alternatives,
+    }
+}
 
 // Drops the nodes that the root does not reach.
-fn cut(
-    root: u32,
-    nodes: &mut [Node],
-    terms: &mut [Term],
-    alternatives: &mut [u32],
-    map: &mut [u32],
-) -> Standing
-    requires packed { Packed (slots nodes.old terms.old alternatives.old) }
-    requires long { length map.old ≡ length nodes.old }
-    requires root { root < length nodes.old }
-    ensures answer { result ≡ standing_of (prune (whole root (slots nodes.old terms.old alternatives.old))) }
-    ensures tables { slots nodes.new terms.new alternatives.new ≡ laid (prune (whole root (slots nodes.old terms.old alternatives.old))).lines (slots nodes.old terms.old alternatives.old) }
+fn cut(root: u32, tables: &mut TablesMut, map: &mut [u32]) -> Standing
+    requires packed { Packed (held tables.old) }
+    requires long { length map.old ≡ length tables.old.nodes.now }
+    requires root { root < length tables.old.nodes.now }
+    ensures lent { SameLoans tables.old tables.new }
+    ensures sizes { SameSizes (held tables.old) (held tables.new) }
+    ensures answer { result ≡ standing_of (prune (whole root (held tables.old))) }
+    ensures tables { held tables.new ≡ laid (prune (whole root (held tables.old))).lines (held tables.old) }
 {
-    blank(map, 0, 0);
-    reach(root, nodes, terms, alternatives, map);
-    let fills = compact(nodes, terms, alternatives, map);
+    map.fill(0);
+    reach(root, shared(tables), map);
+    let fills = compact(tables, map);
     Standing {
         fills,
         root: map[root as usize],
@@ -38,32 +44,23 @@ fn cut(
 }
 
 // Blanks what is not used, and clears the map.
-fn tidy(
-    used: Fills,
-    nodes: &mut [Node],
-    terms: &mut [Term],
-    alternatives: &mut [u32],
-    map: &mut [u32],
-)
-    requires nodes { used.nodes ≤ length nodes.old }
-    requires terms { used.terms ≤ length terms.old }
-    requires alternatives { used.alternatives ≤ length alternatives.old }
-    ensures nodes { nodes.new ≡ take used.nodes nodes.old ++ replicate (length nodes.old - used.nodes) blank_node }
-    ensures terms { terms.new ≡ take used.terms terms.old ++ replicate (length terms.old - used.terms) blank_term }
-    ensures alternatives { alternatives.new ≡ take used.alternatives alternatives.old ++ replicate (length alternatives.old - used.alternatives) 0 }
+fn tidy(used: Fills, tables: &mut TablesMut, map: &mut [u32])
+    requires nodes { used.nodes ≤ length tables.old.nodes.now }
+    requires terms { used.terms ≤ length tables.old.terms.now }
+    requires alternatives { used.alternatives ≤ length tables.old.alternatives.now }
+    ensures lent { SameLoans tables.old tables.new }
+    ensures nodes { tables.new.nodes.now ≡ take used.nodes tables.old.nodes.now ++ replicate (length tables.old.nodes.now - used.nodes) blank_node }
+    ensures terms { tables.new.terms.now ≡ take used.terms tables.old.terms.now ++ replicate (length tables.old.terms.now - used.terms) blank_term }
+    ensures alternatives { tables.new.alternatives.now ≡ take used.alternatives tables.old.alternatives.now ++ replicate (length tables.old.alternatives.now - used.alternatives) 0 }
     ensures map { map.new ≡ padded (length map.old) 0 [] }
 {
-    blank(nodes, used.nodes as usize, Node::State(StateNode::Yes));
-    blank(
-        terms,
-        used.terms as usize,
-        Term {
-            coefficient: 0,
-            node: 0,
-        },
-    );
-    blank(alternatives, used.alternatives as usize, 0);
-    blank(map, 0, 0);
+    tables.nodes[used.nodes as usize..].fill(Node::State(StateNode::Yes));
+    tables.terms[used.terms as usize..].fill(Term {
+        coefficient: 0,
+        node: 0,
+    });
+    tables.alternatives[used.alternatives as usize..].fill(0);
+    map.fill(0);
 }
 
 // Simplifies the formula that fills these tables. The map has an entry for each node.
@@ -81,10 +78,15 @@ fn shrink(
     ensures tables { slots nodes.new terms.new alternatives.new ≡ filled (simplify (whole root (slots nodes.old terms.old alternatives.old))).lines (slots nodes.old terms.old alternatives.old) }
     ensures map { map.new ≡ padded (length map.old) 0 [] }
 {
-    settle(nodes, terms, alternatives, map);
+    let mut tables = TablesMut {
+        nodes,
+        terms,
+        alternatives,
+    };
+    settle(&mut tables, map);
     let top = map[root as usize];
-    let standing = cut(top, nodes, terms, alternatives, map);
-    tidy(standing.fills, nodes, terms, alternatives, map);
+    let standing = cut(top, &mut tables, map);
+    tidy(standing.fills, &mut tables, map);
     standing
 }
 
@@ -105,10 +107,10 @@ fn simplify_front(
     let count = fills.nodes as usize;
     shrink(
         standing.root,
-        &mut nodes[0..count],
-        &mut terms[0..fills.terms as usize],
-        &mut alternatives[0..fills.alternatives as usize],
-        &mut map[0..count],
+        &mut nodes[..count],
+        &mut terms[..fills.terms as usize],
+        &mut alternatives[..fills.alternatives as usize],
+        &mut map[..count],
     )
 }
 
@@ -117,21 +119,15 @@ fn simplify_front(
 pub fn simplify_in_place(
     standing: Standing,
     mass: u64,
-    nodes: &mut [Node],
-    terms: &mut [Term],
-    alternatives: &mut [u32],
+    tables: &mut TablesMut,
     map: &mut [u32],
 ) -> Result<Standing, Refusal>
-    ensures outcome { done result (desk (slots nodes.new terms.new alternatives.new) map.new) ≡ simplified standing.fills standing.root mass (desk (slots nodes.old terms.old alternatives.old) map.old) }
+    ensures lent { SameLoans tables.old tables.new }
+    ensures outcome { done result (desk (held tables.new) map.new) ≡ simplified standing.fills standing.root mass (desk (held tables.old) map.old) }
     ensures fewer { NoMore standing.fills result }
-    ensures settled { SettlesIn (slots nodes.new terms.new alternatives.new) result }
+    ensures settled { SettlesIn (held tables.new) result }
 {
-    let tables = Tables {
-        nodes,
-        terms,
-        alternatives,
-    };
-    if !formula_in(standing, mass, tables) {
+    if !formula_in(standing, mass, shared(tables)) {
         return Err(Refusal::NoFormula);
     }
     if map.len() < standing.fills.nodes as usize {
@@ -139,5 +135,11 @@ pub fn simplify_in_place(
     }
     layout_stands();
     tables_stand();
-    Ok(simplify_front(standing, nodes, terms, alternatives, map))
+    Ok(simplify_front(
+        standing,
+        tables.nodes,
+        tables.terms,
+        tables.alternatives,
+        map,
+    ))
 }

@@ -1,37 +1,28 @@
 // The second pass over the tables: what the root reaches is ticked.
-ghost use Rattle.std.specs.Prelude.{◌≡◌, ℕ, ◌<◌, [], ◌∷◌, ◌++◌, map, length, if◌then◌else◌, nat_eq, slice_index, slice_index_or};
+ghost use Rattle.std.specs.Prelude.{◌≡◌, ℕ, ◌<◌, [], ◌∷◌, ◌++◌, map, length, slice_index};
 ghost use Rattle.std.specs.List.{AllByRecursion};
 ghost use Rattle.formulas.specs.Lines.{entries, state_line, dist_line, line};
-ghost use Rattle.formulas.specs.Tables.{slots};
+ghost use Rattle.formulas.specs.Tables.{contents};
 ghost use Rattle.simplification.specs.Simplify.{parts, reached};
-ghost use Rattle.simplification.specs.Tables.{blank_node};
 ghost use Rattle.simplification.specs.Packed.{all_lines, Packed};
 ghost use Rattle.simplification.specs.Moving.{FitStep, FitSum, FitState, FitDist, Fit};
 ghost use Rattle.simplification.specs.Reaching.{ticked, Ticks};
 
+use crate::entry::Entry;
 use crate::runs::entries_of;
 use formulas::node::{DistNode, Node, Run, StateNode, Term};
+use formulas::tables::Tables;
 
 // In the map, a node that is reached.
 pub(crate) const TICK: u32 = 1;
 
 // Ticks the nodes that are wanted.
-fn tick_all(wanted: &[u32], ticks: &mut [u32])
-    requires { AllByRecursion (λ d. d < length ticks.old) wanted.now }
-    ensures { ticks.new ≡ ticked ticks.old wanted.now }
+fn tick_all<T: Entry>(wanted: &[T], ticks: &mut [u32])
+    requires { AllByRecursion (λ k. T.part k < length ticks.old) wanted.now }
+    ensures { ticks.new ≡ ticked ticks.old (map (λ k. T.part k) wanted.now) }
 {
-    for d in wanted {
-        ticks[*d as usize] = TICK;
-    }
-}
-
-// Ticks the nodes of the terms that are wanted.
-fn tick_terms(wanted: &[Term], ticks: &mut [u32])
-    requires { AllByRecursion (λ k. k.node < length ticks.old) wanted.now }
-    ensures { ticks.new ≡ ticked ticks.old (map (λ k. k.node) wanted.now) }
-{
-    for t in wanted {
-        ticks[t.node as usize] = TICK;
+    for entry in wanted {
+        ticks[entry.part() as usize] = TICK;
     }
 }
 
@@ -49,7 +40,7 @@ fn tick_sum(run: Run, terms: &[Term], ticks: &mut [u32])
     requires { FitSum (λ d. d < length ticks.old) terms.now 0 run }
     ensures { ticks.new ≡ ticked ticks.old (map (λ k. k.node) (entries terms.now run)) }
 {
-    tick_terms(entries_of(terms, run), ticks);
+    tick_all(entries_of(terms, run), ticks);
 }
 
 // Ticks the parts of a node.
@@ -58,22 +49,13 @@ fn tick_state(node: StateNode, alternatives: &[u32], ticks: &mut [u32])
     ensures { ticks.new ≡ ticked ticks.old (parts (state_line alternatives.now node)) }
 {
     match node {
-        StateNode::Yes => {}
-        StateNode::No => {}
+        StateNode::Yes | StateNode::No => {}
         StateNode::And(a, b) => {
             ticks[a as usize] = TICK;
             ticks[b as usize] = TICK;
         }
-        StateNode::Not(a) => {
-            ticks[a as usize] = TICK;
-        }
-        StateNode::Step {
-            action: _,
-            moves,
-            heres,
-        } => {
-            tick_step(moves, heres, alternatives, ticks);
-        }
+        StateNode::Not(a) => ticks[a as usize] = TICK,
+        StateNode::Step { moves, heres, .. } => tick_step(moves, heres, alternatives, ticks),
     }
 }
 
@@ -82,62 +64,38 @@ fn tick_dist(node: DistNode, terms: &[Term], ticks: &mut [u32])
     ensures { ticks.new ≡ ticked ticks.old (parts (dist_line terms.now node)) }
 {
     match node {
-        DistNode::Yes => {}
-        DistNode::No => {}
+        DistNode::Yes | DistNode::No => {}
         DistNode::And(a, b) => {
             ticks[a as usize] = TICK;
             ticks[b as usize] = TICK;
         }
-        DistNode::Not(a) => {
-            ticks[a as usize] = TICK;
-        }
-        DistNode::Sum {
-            threshold: _,
-            terms: run,
-        } => {
-            tick_sum(run, terms, ticks);
-        }
+        DistNode::Not(a) => ticks[a as usize] = TICK,
+        DistNode::Sum { terms: run, .. } => tick_sum(run, terms, ticks),
     }
 }
 
-fn tick_node(node: Node, terms: &[Term], alternatives: &[u32], ticks: &mut [u32])
-    requires { Fit (λ d. d < length ticks.old) terms.now alternatives.now 0 0 node }
-    ensures { ticks.new ≡ ticked ticks.old (parts (line terms.now alternatives.now node)) }
+fn tick_node(node: Node, tables: Tables, ticks: &mut [u32])
+    requires { Fit (λ d. d < length ticks.old) tables.terms.now tables.alternatives.now 0 0 node }
+    ensures { ticks.new ≡ ticked ticks.old (parts (line tables.entry.terms.now tables.entry.alternatives.now node)) }
 {
     match node {
-        Node::State(s) => tick_state(s, alternatives, ticks),
-        Node::Dist(d) => tick_dist(d, terms, ticks),
+        Node::State(s) => tick_state(s, tables.alternatives, ticks),
+        Node::Dist(d) => tick_dist(d, tables.terms, ticks),
     }
 }
 
-// Ticks the parts of node `i` if it is ticked.
-fn reach_at(i: usize, nodes: &[Node], terms: &[Term], alternatives: &[u32], ticks: &mut [u32])
-    requires node { i < length nodes.now }
-    requires tick { i < length ticks.old }
-    requires fit { Fit (λ d. d < length ticks.old) terms.now alternatives.now 0 0 (slice_index_or nodes.now i blank_node) }
-    ensures { ticks.new ≡ (if nat_eq (slice_index ticks.old i) 1 then ticked ticks.old (parts (line terms.now alternatives.now (slice_index_or nodes.now i blank_node))) else ticks.old) }
-{
-    if ticks[i] == TICK {
-        tick_node(nodes[i], terms, alternatives, ticks);
-    }
-}
-
-// Ticks what the root reaches, from the last node to the first.
-pub(crate) fn reach(
-    root: u32,
-    nodes: &[Node],
-    terms: &[Term],
-    alternatives: &[u32],
-    ticks: &mut [u32],
-)
+// Ticks what the root reaches: from the last node to the first, the parts of each that is ticked.
+pub(crate) fn reach(root: u32, tables: Tables, ticks: &mut [u32])
     requires root { root < length ticks.old }
-    requires long { length ticks.old ≡ length nodes.now }
+    requires long { length ticks.old ≡ length tables.nodes.now }
     requires blank { (j : ℕ) → slice_index ticks.old j ≡ 0 }
-    requires packed { Packed (slots nodes.now terms.now alternatives.now) }
-    ensures { Ticks ticks.new (reached 0 (all_lines (slots nodes.now terms.now alternatives.now)) (root ∷ [])) }
+    requires packed { Packed (contents tables) }
+    ensures { Ticks ticks.new (reached 0 (all_lines (contents tables.entry)) (root ∷ [])) }
 {
     ticks[root as usize] = TICK;
-    for i in (0..nodes.len()).rev() {
-        reach_at(i, nodes, terms, alternatives, ticks);
+    for (i, node) in tables.nodes.iter().enumerate().rev() {
+        if ticks[i] == TICK {
+            tick_node(*node, tables, ticks);
+        }
     }
 }

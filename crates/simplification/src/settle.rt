@@ -1,19 +1,22 @@
 // The first pass over the tables: yes and no are worked into the nodes that use them.
-ghost use Rattle.std.specs.Prelude.{◌≡◌, ◌+◌, ◌-◌, ◌^◌, ◌<◌, ◌≤◌, [], length, if◌then◌else◌, slice_index, slice_index_or};
+ghost use Rattle.std.specs.Prelude.{◌≡◌, ◌-◌, ◌^◌, ◌<◌, ◌≤◌, not, Some, None, [], length, if◌then◌else◌, slice_index_or};
 ghost use Rattle.std.specs.List.{AllByRecursion};
 ghost use Rattle.formulas.specs.Lines.{step, sum, entries, state_line, dist_line, line};
-ghost use Rattle.formulas.specs.Tables.{slots, over, laid};
-ghost use Rattle.simplification.specs.Simplify.{tone, tone_of, is_yes, is_no, is_neither, became, coefficients, alternatives_left, has_yes, terms_left, yes_part};
-ghost use Rattle.simplification.specs.Tables.{blank_node};
+ghost use Rattle.formulas.specs.Tables.{slots, SameLoans, held, over, laid};
+ghost use Rattle.simplification.specs.Simplify.{tone, tone_of, is_yes, is_no, is_neither, retarget, both_outcome, non_line, became, coefficients, has_yes, terms_left, yes_part};
+ghost use Rattle.simplification.specs.Tables.{blank_node, SameSizes};
 ghost use Rattle.simplification.specs.Packed.{all_lines, Packed};
-ghost use Rattle.simplification.specs.Moving.{FitStep, FitSum, FitState, FitDist, Fit, put, StateAt, DistAt, LaidAt};
-ghost use Rattle.simplification.specs.Settling.{shade, glance, leaves, Led, SettledAt, left_lines, left_numbers};
+ghost use Rattle.simplification.specs.Moving.{FitStep, FitSum, FitState, FitDist, Fit, Bare, StateAt, DistAt, LaidAt};
+ghost use Rattle.simplification.specs.Settling.{shade, glance_of, both_left, leaves, Led, LedBy, SettledAt, left_lines, left_numbers};
 
-use crate::runs::entries_of;
+use crate::placed::{Ends, Placed};
+use crate::plain::Plain;
+use crate::runs::{entries_of, move_run};
 use formulas::node::{DistNode, Node, Run, StateNode, Term};
+use formulas::tables::TablesMut;
 
 // What a node is seen to be.
-#[derive(Clone, Copy)]
+#[derive(Clone, Copy, PartialEq)]
 pub(crate) enum Seen {
     Yes,
     No,
@@ -24,91 +27,60 @@ fn see(node: Node) -> Seen
     ensures { shade result ≡ tone (line [] [] node) }
 {
     match node {
-        Node::State(StateNode::Yes) => Seen::Yes,
-        Node::State(StateNode::No) => Seen::No,
-        Node::Dist(DistNode::Yes) => Seen::Yes,
-        Node::Dist(DistNode::No) => Seen::No,
+        Node::State(StateNode::Yes) | Node::Dist(DistNode::Yes) => Seen::Yes,
+        Node::State(StateNode::No) | Node::Dist(DistNode::No) => Seen::No,
         _ => Seen::Open,
     }
 }
 
-// What the node is seen to be that stands for a part.
-fn see_part(nodes: &[Node], map: &[u32], part: u32) -> Seen
-    requires part { part < length map.now }
-    requires node { slice_index map.now part < length nodes.now }
-    ensures { shade result ≡ tone_of (glance nodes.now map.now) part }
-{
-    see(nodes[map[part as usize] as usize])
+// The nodes before one that is settled. The map leads from each to the node that stands for it.
+#[derive(Clone, Copy)]
+pub(crate) struct Before<'a> {
+    pub nodes: &'a [Node],
+    pub map: &'a [u32],
 }
 
-fn is_yes(seen: Seen) -> bool
-    ensures { result ≡ is_yes (shade seen) }
-{
-    match seen {
-        Seen::Yes => true,
-        Seen::No => false,
-        Seen::Open => false,
+impl Before<'_> {
+    // What the node is seen to be that stands for a part.
+    fn see(self, part: u32) -> Seen
+        requires { LedBy self part }
+        ensures { shade result ≡ tone_of (glance_of self.entry) part }
+    {
+        see(self.nodes[self.map[part as usize] as usize])
     }
-}
 
-fn is_no(seen: Seen) -> bool
-    ensures { result ≡ is_no (shade seen) }
-{
-    match seen {
-        Seen::Yes => false,
-        Seen::No => true,
-        Seen::Open => false,
-    }
-}
-
-fn is_open(seen: Seen) -> bool
-    ensures { result ≡ is_neither (shade seen) }
-{
-    match seen {
-        Seen::Yes => false,
-        Seen::No => false,
-        Seen::Open => true,
-    }
-}
-
-// Whether one of the alternatives is yes.
-fn some_yes(alternatives: &[u32], nodes: &[Node], map: &[u32]) -> bool
-    requires { AllByRecursion (Led nodes.now map.now) alternatives.now }
-    ensures { result ≡ has_yes (glance nodes.now map.now) alternatives.now }
-{
-    for d in alternatives {
-        if is_yes(see_part(nodes, map, *d)) {
-            return true;
+    // What is left of an alternative: nothing of a no.
+    fn alternative_left(self, d: u32) -> Option<u32>
+        requires { LedBy self d }
+        ensures { result ≡ (if not (is_no (tone_of (glance_of self.entry) d)) then Some (glance_of self.entry d).to else None) }
+    {
+        match self.see(d) {
+            Seen::No => None,
+            _ => Some(self.map[d as usize]),
         }
     }
-    false
-}
 
-// Moves the alternatives of a run that are not no down to `start`, and says where they end.
-fn keep_alternatives(
-    alternatives: &mut [u32],
-    run: Run,
-    start: u32,
-    nodes: &[Node],
-    map: &[u32],
-) -> u32
-    requires past { start ≤ run.first }
-    requires within { run.first + run.count ≤ length alternatives.old }
-    requires small { length alternatives.old < 2 ^ 32 }
-    requires led { AllByRecursion (Led nodes.now map.now) (entries alternatives.old run) }
-    ensures end { result ≡ start + length (alternatives_left (glance nodes.now map.now) (entries alternatives.old run)) }
-    ensures moved { alternatives.new ≡ put start (alternatives_left (glance nodes.now map.now) (entries alternatives.old run)) alternatives.old }
-{
-    let first = run.first as usize;
-    let mut end = start;
-    for k in 0..run.count as usize {
-        let d = alternatives[first + k];
-        if !is_no(see_part(nodes, map, d)) {
-            alternatives[end as usize] = map[d as usize];
-            end += 1;
+    // What is left of a term: nothing of a yes or a no.
+    fn term_left(self, t: Term) -> Option<Term>
+        requires { LedBy self t.node }
+        ensures { result ≡ (if is_neither (tone_of (glance_of self.entry) t.node) then Some (retarget (λ j. (glance_of self.entry j).to) t) else None) }
+    {
+        match self.see(t.node) {
+            Seen::Open => Some(Term {
+                node: self.map[t.node as usize],
+                ..t
+            }),
+            _ => None,
         }
     }
-    end
+
+    // Whether one of the alternatives is yes.
+    fn some_yes(self, alternatives: &[u32]) -> bool
+        requires { AllByRecursion (LedBy self) alternatives.now }
+        ensures { result ≡ has_yes (glance_of self.entry) alternatives.now }
+    {
+        alternatives.iter().any(|d| self.see(*d) == Seen::Yes)
+    }
 }
 
 // What a sum is left with: its threshold, and how far the coefficients of its terms fall short of that.
@@ -131,94 +103,84 @@ fn weigh_term(rest: Rest, coefficient: u64, seen: Seen) -> Rest
         },
         Seen::No => rest,
         Seen::Open => Rest {
-            threshold: rest.threshold,
             lack: rest.lack.saturating_sub(coefficient),
+            ..rest
         },
     }
 }
 
 // What a sum of these terms is left with: no terms go, and yes terms lower the threshold.
-fn weigh(terms: &[Term], threshold: u64, nodes: &[Node], map: &[u32]) -> Rest
-    requires { AllByRecursion (λ k. Led nodes.now map.now k.node) terms.now }
-    ensures threshold { result.threshold ≡ threshold - yes_part (glance nodes.now map.now) terms.now }
-    ensures lack { result.lack ≡ result.threshold - coefficients (terms_left (glance nodes.now map.now) terms.now) }
+fn weigh(terms: &[Term], threshold: u64, before: Before) -> Rest
+    requires { AllByRecursion (λ k. LedBy before k.node) terms.now }
+    ensures threshold { result.threshold ≡ threshold - yes_part (glance_of before.entry) terms.now }
+    ensures lack { result.lack ≡ result.threshold - coefficients (terms_left (glance_of before.entry) terms.now) }
 {
     let mut rest = Rest {
         threshold,
         lack: threshold,
     };
     for t in terms {
-        rest = weigh_term(rest, t.coefficient, see_part(nodes, map, t.node));
+        rest = weigh_term(rest, t.coefficient, before.see(t.node));
     }
     rest
 }
 
-// Moves the terms of a run that are neither yes nor no down to `start`, and says where they end.
-fn keep_terms(terms: &mut [Term], run: Run, start: u32, nodes: &[Node], map: &[u32]) -> u32
-    requires past { start ≤ run.first }
-    requires within { run.first + run.count ≤ length terms.old }
-    requires small { length terms.old < 2 ^ 32 }
-    requires led { AllByRecursion (λ k. Led nodes.now map.now k.node) (entries terms.old run) }
-    ensures end { result ≡ start + length (terms_left (glance nodes.now map.now) (entries terms.old run)) }
-    ensures moved { terms.new ≡ put start (terms_left (glance nodes.now map.now) (entries terms.old run)) terms.old }
+// What becomes of a node: the number that its users take, and what stands at its place.
+#[derive(Clone, Copy)]
+pub(crate) struct Turn<N, E> {
+    pub to: u32,
+    pub placed: Placed<N, E>,
+}
+
+fn settle_not<N: Plain>(a: u32, before: Before) -> N
+    requires { LedBy before a }
+    ensures { Bare (N.node result) (non_line N.sort (tone_of (glance_of before.entry) a) (glance_of before.entry a).to) }
 {
-    let first = run.first as usize;
-    let mut end = start;
-    for k in 0..run.count as usize {
-        let t = terms[first + k];
-        if is_open(see_part(nodes, map, t.node)) {
-            terms[end as usize] = Term {
-                coefficient: t.coefficient,
-                node: map[t.node as usize],
-            };
-            end += 1;
-        }
+    match before.see(a) {
+        Seen::Yes => N::constant(false),
+        Seen::No => N::constant(true),
+        Seen::Open => N::not(before.map[a as usize]),
     }
-    end
 }
 
-// What becomes of a node: the number that its users take, what stands at its place, and where the entries of that end.
-#[derive(Clone, Copy)]
-pub(crate) struct StateTurn {
-    pub to: u32,
-    pub node: StateNode,
-    pub end: u32,
-}
-
-#[derive(Clone, Copy)]
-pub(crate) struct DistTurn {
-    pub to: u32,
-    pub node: DistNode,
-    pub end: u32,
+// An and with one yes part stands for the other part: its users take the number of that, and nobody reads its own place.
+fn settle_and<N: Plain>(i: u32, a: u32, b: u32, before: Before) -> (u32, N)
+    requires { LedBy before a × LedBy before b }
+    ensures to { result.0 ≡ (both_outcome i N.sort (tone_of (glance_of before.entry) a) (tone_of (glance_of before.entry) b) (glance_of before.entry a) (glance_of before.entry b)).to }
+    ensures left { Bare (N.node result.1) (both_left N.sort (tone_of (glance_of before.entry) a) (tone_of (glance_of before.entry) b) (glance_of before.entry a).to (glance_of before.entry b).to) }
+{
+    let (left, right) = (before.map[a as usize], before.map[b as usize]);
+    match (before.see(a), before.see(b)) {
+        (Seen::No, _) | (_, Seen::No) => (i, N::constant(false)),
+        (Seen::Yes, Seen::Yes) => (i, N::constant(true)),
+        (Seen::Yes, Seen::Open) => (right, N::constant(true)),
+        (Seen::Open, Seen::Yes) => (left, N::constant(true)),
+        (Seen::Open, Seen::Open) => (i, N::and(left, right)),
+    }
 }
 
 // A step is yes with a yes for here, and no with nothing left. A yes for moves decides nothing: there may be no move.
 fn settle_step(
-    i: u32,
     action: u32,
     moves: Run,
     heres: Run,
     start: u32,
-    nodes: &[Node],
-    map: &[u32],
+    before: Before,
     alternatives: &mut [u32],
-) -> StateTurn
-    requires { FitStep (Led nodes.now map.now) alternatives.old start moves heres }
-    ensures to { result.to ≡ i }
-    ensures laid { StateAt (leaves (glance nodes.now map.now) (step action (entries alternatives.old moves) (entries alternatives.old heres))) start alternatives.old result.node result.end alternatives.new }
+) -> Placed<StateNode, u32>
+    requires { FitStep (LedBy before) alternatives.old start moves heres }
+    ensures { StateAt (leaves (glance_of before.entry) (step action (entries alternatives.old moves) (entries alternatives.old heres))) start alternatives.old result.node result.end alternatives.new }
 {
-    if some_yes(entries_of(alternatives, heres), nodes, map) {
-        return StateTurn {
-            to: i,
+    if before.some_yes(entries_of(alternatives, heres)) {
+        return Placed {
             node: StateNode::Yes,
             end: start,
         };
     }
-    let middle = keep_alternatives(alternatives, moves, start, nodes, map);
-    let end = keep_alternatives(alternatives, heres, middle, nodes, map);
+    let middle = move_run(alternatives, moves, start, |d| before.alternative_left(d));
+    let end = move_run(alternatives, heres, middle, |d| before.alternative_left(d));
     if end == start {
-        return StateTurn {
-            to: i,
+        return Placed {
             node: StateNode::No,
             end,
         };
@@ -234,39 +196,34 @@ fn settle_step(
             count: end - middle,
         },
     };
-    StateTurn { to: i, node, end }
+    Placed { node, end }
 }
 
 // A sum is yes with threshold 0, and no if its terms fall short.
 fn settle_sum(
-    i: u32,
     threshold: u64,
     run: Run,
     start: u32,
-    nodes: &[Node],
-    map: &[u32],
+    before: Before,
     terms: &mut [Term],
-) -> DistTurn
-    requires { FitSum (Led nodes.now map.now) terms.old start run }
-    ensures to { result.to ≡ i }
-    ensures laid { DistAt (leaves (glance nodes.now map.now) (sum threshold (entries terms.old run))) start terms.old result.node result.end terms.new }
+) -> Placed<DistNode, u32>
+    requires { FitSum (LedBy before) terms.old start run }
+    ensures { DistAt (leaves (glance_of before.entry) (sum threshold (entries terms.old run))) start terms.old result.node result.end terms.new }
 {
-    let rest = weigh(entries_of(terms, run), threshold, nodes, map);
+    let rest = weigh(entries_of(terms, run), threshold, before);
     if rest.threshold == 0 {
-        return DistTurn {
-            to: i,
+        return Placed {
             node: DistNode::Yes,
             end: start,
         };
     }
     if rest.lack > 0 {
-        return DistTurn {
-            to: i,
+        return Placed {
             node: DistNode::No,
             end: start,
         };
     }
-    let end = keep_terms(terms, run, start, nodes, map);
+    let end = move_run(terms, run, start, |t| before.term_left(t));
     let node = DistNode::Sum {
         threshold: rest.threshold,
         terms: Run {
@@ -274,87 +231,36 @@ fn settle_sum(
             count: end - start,
         },
     };
-    DistTurn { to: i, node, end }
+    Placed { node, end }
 }
 
-// An and with one yes part stands for the other part: its users take the number of that, and nobody reads its own place.
 fn settle_state(
     i: u32,
     node: StateNode,
     start: u32,
-    nodes: &[Node],
-    map: &[u32],
+    before: Before,
     alternatives: &mut [u32],
-) -> StateTurn
-    requires { FitState (Led nodes.now map.now) alternatives.old start node }
-    ensures to { result.to ≡ (became i (glance nodes.now map.now) (state_line alternatives.old node)).to }
-    ensures laid { StateAt (leaves (glance nodes.now map.now) (state_line alternatives.old node)) start alternatives.old result.node result.end alternatives.new }
+) -> Turn<StateNode, u32>
+    requires { FitState (LedBy before) alternatives.old start node }
+    ensures to { result.to ≡ (became i (glance_of before.entry) (state_line alternatives.old node)).to }
+    ensures laid { StateAt (leaves (glance_of before.entry) (state_line alternatives.old node)) start alternatives.old result.placed.node result.placed.end alternatives.new }
 {
-    match node {
-        StateNode::Yes => StateTurn {
-            to: i,
-            node,
-            end: start,
-        },
-        StateNode::No => StateTurn {
-            to: i,
-            node,
-            end: start,
-        },
-        StateNode::Not(a) => match see_part(nodes, map, a) {
-            Seen::Yes => StateTurn {
-                to: i,
-                node: StateNode::No,
-                end: start,
-            },
-            Seen::No => StateTurn {
-                to: i,
-                node: StateNode::Yes,
-                end: start,
-            },
-            Seen::Open => StateTurn {
-                to: i,
-                node: StateNode::Not(map[a as usize]),
-                end: start,
-            },
-        },
-        StateNode::And(a, b) => match (see_part(nodes, map, a), see_part(nodes, map, b)) {
-            (Seen::No, _) => StateTurn {
-                to: i,
-                node: StateNode::No,
-                end: start,
-            },
-            (_, Seen::No) => StateTurn {
-                to: i,
-                node: StateNode::No,
-                end: start,
-            },
-            (Seen::Yes, Seen::Yes) => StateTurn {
-                to: i,
-                node: StateNode::Yes,
-                end: start,
-            },
-            (Seen::Yes, Seen::Open) => StateTurn {
-                to: map[b as usize],
-                node: StateNode::Yes,
-                end: start,
-            },
-            (Seen::Open, Seen::Yes) => StateTurn {
-                to: map[a as usize],
-                node: StateNode::Yes,
-                end: start,
-            },
-            (Seen::Open, Seen::Open) => StateTurn {
-                to: i,
-                node: StateNode::And(map[a as usize], map[b as usize]),
-                end: start,
-            },
-        },
+    let (to, node) = match node {
+        StateNode::Yes | StateNode::No => (i, node),
+        StateNode::Not(a) => (i, settle_not(a, before)),
+        StateNode::And(a, b) => settle_and(i, a, b, before),
         StateNode::Step {
             action,
             moves,
             heres,
-        } => settle_step(i, action, moves, heres, start, nodes, map, alternatives),
+        } => {
+            let placed = settle_step(action, moves, heres, start, before, alternatives);
+            return Turn { to: i, placed };
+        }
+    };
+    Turn {
+        to,
+        placed: Placed { node, end: start },
     }
 }
 
@@ -363,131 +269,71 @@ fn settle_dist(
     i: u32,
     node: DistNode,
     start: u32,
-    nodes: &[Node],
-    map: &[u32],
+    before: Before,
     terms: &mut [Term],
-) -> DistTurn
-    requires { FitDist (Led nodes.now map.now) terms.old start node }
-    ensures to { result.to ≡ (became i (glance nodes.now map.now) (dist_line terms.old node)).to }
-    ensures laid { DistAt (leaves (glance nodes.now map.now) (dist_line terms.old node)) start terms.old result.node result.end terms.new }
+) -> Turn<DistNode, u32>
+    requires { FitDist (LedBy before) terms.old start node }
+    ensures to { result.to ≡ (became i (glance_of before.entry) (dist_line terms.old node)).to }
+    ensures laid { DistAt (leaves (glance_of before.entry) (dist_line terms.old node)) start terms.old result.placed.node result.placed.end terms.new }
 {
-    match node {
-        DistNode::Yes => DistTurn {
-            to: i,
-            node,
-            end: start,
-        },
-        DistNode::No => DistTurn {
-            to: i,
-            node,
-            end: start,
-        },
-        DistNode::Not(a) => match see_part(nodes, map, a) {
-            Seen::Yes => DistTurn {
-                to: i,
-                node: DistNode::No,
-                end: start,
-            },
-            Seen::No => DistTurn {
-                to: i,
-                node: DistNode::Yes,
-                end: start,
-            },
-            Seen::Open => DistTurn {
-                to: i,
-                node: DistNode::Not(map[a as usize]),
-                end: start,
-            },
-        },
-        DistNode::And(a, b) => match (see_part(nodes, map, a), see_part(nodes, map, b)) {
-            (Seen::No, _) => DistTurn {
-                to: i,
-                node: DistNode::No,
-                end: start,
-            },
-            (_, Seen::No) => DistTurn {
-                to: i,
-                node: DistNode::No,
-                end: start,
-            },
-            (Seen::Yes, Seen::Yes) => DistTurn {
-                to: i,
-                node: DistNode::Yes,
-                end: start,
-            },
-            (Seen::Yes, Seen::Open) => DistTurn {
-                to: map[b as usize],
-                node: DistNode::Yes,
-                end: start,
-            },
-            (Seen::Open, Seen::Yes) => DistTurn {
-                to: map[a as usize],
-                node: DistNode::Yes,
-                end: start,
-            },
-            (Seen::Open, Seen::Open) => DistTurn {
-                to: i,
-                node: DistNode::And(map[a as usize], map[b as usize]),
-                end: start,
-            },
-        },
+    let (to, node) = match node {
+        DistNode::Yes | DistNode::No => (i, node),
+        DistNode::Not(a) => (i, settle_not(a, before)),
+        DistNode::And(a, b) => settle_and(i, a, b, before),
         DistNode::Sum {
             threshold,
             terms: run,
-        } => settle_sum(i, threshold, run, start, nodes, map, terms),
+        } => {
+            let placed = settle_sum(threshold, run, start, before, terms);
+            return Turn { to: i, placed };
+        }
+    };
+    Turn {
+        to,
+        placed: Placed { node, end: start },
     }
-}
-
-// The same for a node of either sort, with the ends in both tables.
-#[derive(Clone, Copy)]
-pub(crate) struct Turn {
-    pub to: u32,
-    pub node: Node,
-    pub term: u32,
-    pub alternative: u32,
 }
 
 fn settle_node(
     i: u32,
     node: Node,
-    term: u32,
-    alternative: u32,
-    nodes: &[Node],
-    map: &[u32],
+    start: Ends,
+    before: Before,
     terms: &mut [Term],
     alternatives: &mut [u32],
-) -> Turn
-    requires { Fit (Led nodes.now map.now) terms.old alternatives.old term alternative node }
-    ensures to { result.to ≡ (became i (glance nodes.now map.now) (line terms.old alternatives.old node)).to }
-    ensures laid { LaidAt (leaves (glance nodes.now map.now) (line terms.old alternatives.old node)) term alternative terms.old alternatives.old result.node result.term result.alternative terms.new alternatives.new }
+) -> Turn<Node, Ends>
+    requires { Fit (LedBy before) terms.old alternatives.old start.term start.alternative node }
+    ensures to { result.to ≡ (became i (glance_of before.entry) (line terms.old alternatives.old node)).to }
+    ensures laid { LaidAt (leaves (glance_of before.entry) (line terms.old alternatives.old node)) start.term start.alternative terms.old alternatives.old result.placed.node result.placed.end.term result.placed.end.alternative terms.new alternatives.new }
 {
     match node {
         Node::State(s) => {
-            let turn = settle_state(i, s, alternative, nodes, map, alternatives);
+            let Turn { to, placed } = settle_state(i, s, start.alternative, before, alternatives);
             Turn {
-                to: turn.to,
-                node: Node::State(turn.node),
-                term,
-                alternative: turn.end,
+                to,
+                placed: Placed {
+                    node: Node::State(placed.node),
+                    end: Ends {
+                        alternative: placed.end,
+                        ..start
+                    },
+                },
             }
         }
         Node::Dist(d) => {
-            let turn = settle_dist(i, d, term, nodes, map, terms);
+            let Turn { to, placed } = settle_dist(i, d, start.term, before, terms);
             Turn {
-                to: turn.to,
-                node: Node::Dist(turn.node),
-                term: turn.end,
-                alternative,
+                to,
+                placed: Placed {
+                    node: Node::Dist(placed.node),
+                    end: Ends {
+                        term: placed.end,
+                        ..start
+                    },
+                },
             }
         }
     }
-}
-
-// How far the entries that are left go in the tables of terms and alternatives.
-#[derive(Clone, Copy)]
-pub(crate) struct Ends {
-    pub term: u32,
-    pub alternative: u32,
 }
 
 // Settles node `i`: what is left of its entries goes to where those of the nodes before it end.
@@ -505,41 +351,35 @@ fn settle_at(
     requires fit { Fit (Led nodes.old map.old) terms.old alternatives.old ends.term ends.alternative (slice_index_or nodes.old i blank_node) }
     ensures { SettledAt i ends.term ends.alternative (slots nodes.old terms.old alternatives.old) map.old result.term result.alternative (slots nodes.new terms.new alternatives.new) map.new }
 {
-    let turn = settle_node(
-        i as u32,
-        nodes[i],
-        ends.term,
-        ends.alternative,
-        nodes,
-        map,
-        terms,
-        alternatives,
-    );
-    map[i] = turn.to;
-    nodes[i] = turn.node;
-    Ends {
-        term: turn.term,
-        alternative: turn.alternative,
-    }
+    let before = Before { nodes, map };
+    let Turn { to, placed } = settle_node(i as u32, nodes[i], ends, before, terms, alternatives);
+    map[i] = to;
+    nodes[i] = placed.node;
+    placed.end
 }
 
 // Settles all nodes, each after its parts.
-pub(crate) fn settle(
-    nodes: &mut [Node],
-    terms: &mut [Term],
-    alternatives: &mut [u32],
-    map: &mut [u32],
-)
-    requires packed { Packed (slots nodes.old terms.old alternatives.old) }
-    requires room { length nodes.old ≤ length map.old }
-    ensures tables { slots nodes.new terms.new alternatives.new ≡ laid (left_lines (all_lines (slots nodes.old terms.old alternatives.old))) (slots nodes.old terms.old alternatives.old) }
-    ensures map { map.new ≡ over (left_numbers (all_lines (slots nodes.old terms.old alternatives.old))) map.old }
+pub(crate) fn settle(tables: &mut TablesMut, map: &mut [u32])
+    requires packed { Packed (held tables.old) }
+    requires room { length tables.old.nodes.now ≤ length map.old }
+    ensures lent { SameLoans tables.old tables.new }
+    ensures sizes { SameSizes (held tables.old) (held tables.new) }
+    ensures tables { held tables.new ≡ laid (left_lines (all_lines (held tables.old))) (held tables.old) }
+    ensures map { map.new ≡ over (left_numbers (all_lines (held tables.old))) map.old }
 {
     let mut ends = Ends {
         term: 0,
         alternative: 0,
     };
-    for i in 0..nodes.len() {
-        ends = settle_at(i, ends, nodes, terms, alternatives, map);
+    // By index: each node that is read is written.
+    for i in 0..tables.nodes.len() {
+        ends = settle_at(
+            i,
+            ends,
+            tables.nodes,
+            tables.terms,
+            tables.alternatives,
+            map,
+        );
     }
 }

@@ -1,4 +1,5 @@
-use Rattle.formulas.specs.Tables.{slots}
+use Rattle.formulas.specs.Tables.{SameLoans, held}
+use Rattle.simplification.specs.Tables.{SameSizes}
 use Rattle.simplification.specs.Packed.{all_lines}
 use Rattle.simplification.specs.Compacting.{is_ticked}
 use Rattle.simplification.proofs.Compactings.{Compacting}
@@ -6,5 +7,7 @@ use Rattle.simplification.proofs.compact.compact.Given as goal
 
 abbrev pub invariant-loop-i : goal.invariant-loop-i
 invariant-loop-i l =
-    let s = slots l.initial.nodes l.initial.terms l.initial.alternatives in
-    Compacting (is_ticked l.initial.map) (all_lines s) s l.initial.map l.i l.used (slots l.nodes l.terms l.alternatives) l.map
+    let s = held l.initial.tables in
+    SameLoans l.initial.tables l.tables
+    × SameSizes s (held l.tables)
+    × Compacting (is_ticked l.initial.map) (all_lines s) s l.initial.map l.i l.used (held l.tables) l.map

@@ -1,51 +1,105 @@
-use Rattle.std.proofs.Common.{◌≡◌, ℕ, ◌+◌, ◌-◌, ◌<◌, true, cond, eqb, [], ◌∷◌, length, get_or, drop, sym, ap, ◌∙◌, subst, arith, length-set}
-use Rattle.std.proofs.lemmas.List.{length-map, get_or-map}
+use Rattle.std.proofs.Common.{◌≡◌, ℕ, ◌+◌, ◌<◌, Bool, true, cond, eqb, [], ◌∷◌, length, get_or, drop, sym, ap, ◌∙◌, subst, arith, length-set}
+use Rattle.std.proofs.lemmas.Bool.{eq-eqb, ne_eqb}
+use Rattle.std.proofs.lemmas.List.{length-map, get_or-map, take_all}
 use Rattle.std.proofs.ByRecursion.{All-weaker}
 use Rattle.formulas.specs.Lines.{state, Line, constant, line}
-use Rattle.formulas.specs.Tables.{slots}
+use Rattle.formulas.specs.Tables.{contents}
 use Rattle.formulas.specs.WellFormed.{line_at}
 use Rattle.simplification.specs.Simplify.{parts, reached}
 use Rattle.simplification.specs.Tables.{blank_node}
 use Rattle.simplification.specs.Packed.{all_lines}
+use Rattle.simplification.specs.Moving.{Fit}
 use Rattle.simplification.specs.Reaching.{ticked, Ticks}
 use Rattle.simplification.proofs.Laid.{formed-ordered}
 use Rattle.simplification.proofs.Cutting.{packed-fits}
-use Rattle.simplification.proofs.Ticking.{ticks_start, ticks_turn}
+use Rattle.simplification.proofs.Ticking.{last-long, last-is, last-front, ticks_start, ticks_turn}
 use Rattle.simplification.proofs.reach.reach.Goals as goal
 
 pub loop-i-init : goal.loop-i-init
 loop-i-init c =
-    let s₀ = slots c.args.nodes.now c.args.terms.now c.args.alternatives.now in
-    let ls = all_lines s₀ in
-    ticks_start ls c.args.ticks.now c.args.root (length c.args.nodes.now) c.requires.blank c.requires.root
-    (omega (arith, length-map c.args.nodes.now (line c.args.terms.now c.args.alternatives.now)))
+    let ns = c.args.tables.nodes.now in
+    let ls = all_lines (contents c.args.tables) in
+    let rest = c.into_iter-i-iterator.result.iter.iter.rest.now in
+    let made = c.into_iter-i-iterator.ensures.into_iter_gives in
+    let from = c.rev-i-items.ensures.source in
+    let all : rest ≡ ns =
+    ap (λ r. r.iter.iter.rest.now) made ∙ (ap (λ r. r.iter.rest.now) from ∙ (ap (λ r. r.rest.now) c.enumerate.ensures.source ∙ c.iter.ensures.rest)) in (
+      ap (λ r. r.iter.count) made ∙ (ap (λ r. r.count) from ∙ c.enumerate.ensures.count),
+      omega (arith, ap length all),
+      all ∙ sym (take_all (length rest) ns (omega (arith, ap length all))),
+      ticks_start ls c.args.ticks.now c.args.root (length rest) c.requires.blank c.requires.root
+          (omega (arith, ap length all, length-map ns (line c.args.tables.terms.now c.args.tables.alternatives.now))),
+    )
 
-pub reach_at-requires : goal.reach_at-requires
-reach_at-requires c =
-    let s₀ = slots c.args.nodes.now c.args.terms.now c.args.alternatives.now in
-    let i : ℕ = c.loop-i.i - 1 in
-    let h : i < length c.args.nodes.now = omega (arith, c.loop-i.auto.i, c.loop-i-test.true) in
+pub tick_node-requires : goal.tick_node-requires
+tick_node-requires c =
+    let ns = c.args.tables.nodes.now in
+    let rest = c.next.new.self.iter.iter.rest.now in
+    let more = c.loop-i.i-iterator.iter.iter.rest.now in
+    let node = c.in-Some.node.now in
+    let step = c.in-Some.ensures.steps.1.0 in
+    let front = c.loop-i.invariant.2 in
+    let long = last-long ns rest more node step front in
     let same : length c.loop-i.ticks ≡ length c.args.ticks.now = c.loop-i.auto.ticks ∙ length-set c.args.ticks.now c.args.root 1 in
-    record {
-      node = h;
-      tick = omega (arith, same, h, c.requires.long);
-      fit = packed-fits s₀ c.requires.packed (length c.loop-i.ticks) (omega (arith, same, c.requires.long)) i h;
-    }
+    subst (Fit (λ d. d < length c.loop-i.ticks) c.args.tables.terms.now c.args.tables.alternatives.now 0 0) (last-is ns rest more node step front blank_node)
+    (packed-fits (contents c.args.tables) c.requires.packed (length c.loop-i.ticks) (omega (arith, same, c.requires.long)) (length rest) (omega (arith, long, c.loop-i.invariant.1)))
+
+pub loop-i-preserved-then-ticks-i-eq-TICK : goal.loop-i-preserved-then-ticks-i-eq-TICK
+loop-i-preserved-then-ticks-i-eq-TICK c =
+    let ns = c.args.tables.nodes.now in
+    let rest = c.next.new.self.iter.iter.rest.now in
+    let more = c.loop-i.i-iterator.iter.iter.rest.now in
+    let node = c.in-Some.node.now in
+    let step = c.in-Some.ensures.steps.1.0 in
+    let front = c.loop-i.invariant.2 in
+    let long = last-long ns rest more node step front in
+    let same : length c.loop-i.ticks ≡ length c.args.ticks.now = c.loop-i.auto.ticks ∙ length-set c.args.ticks.now c.args.root 1 in
+    let ls = all_lines (contents c.args.tables) in
+    let i : ℕ = length rest in
+    let here : i < length ns = omega (arith, long, c.loop-i.invariant.1) in
+    let lines : length ls ≡ length ns = length-map ns (line c.args.tables.terms.now c.args.tables.alternatives.now) in
+    let at : line c.args.tables.terms.now c.args.tables.alternatives.now node ≡ line_at ls i =
+    ap (line c.args.tables.terms.now c.args.tables.alternatives.now) (sym (last-is ns rest more node step front blank_node))
+    ∙ sym (get_or-map (line c.args.tables.terms.now c.args.tables.alternatives.now) ns i blank_node (constant state true) here) in
+    let index : c.in-Some.i ≡ i = omega (arith, c.in-Some.ensures.steps.1.1, c.loop-i.invariant.0) in
+    let before : Ticks c.loop-i.ticks (reached (i + 1) (drop (i + 1) ls) (c.args.root ∷ [])) =
+    subst (λ (k : ℕ). Ticks c.loop-i.ticks (reached k (drop k ls) (c.args.root ∷ []))) long c.loop-i.invariant.3 in
+    let low = All-weaker (λ d. d < i) (λ d. d < length c.loop-i.ticks) (λ d l. omega (arith, same, here, c.requires.long)) (parts (line_at ls i)) (formed-ordered ls c.requires.packed.formed i (omega (arith, lines, here))) in (
+      c.in-Some.ensures.steps.0 ∙ c.loop-i.invariant.0,
+      omega (arith, here),
+      last-front ns rest more node step front,
+      ticks_turn ls (c.args.root ∷ []) i (omega (arith, lines, here)) c.loop-i.ticks c.tick_node.new.ticks (omega (arith, lines, same, c.requires.long)) low before
+          (c.tick_node.ensures
+          ∙ (ap (λ (l : Line). ticked c.loop-i.ticks (parts l)) at
+          ∙ ap (λ (b : Bool). cond b (ticked c.loop-i.ticks (parts (line_at ls i))) c.loop-i.ticks)
+          (sym (eq-eqb (get_or c.loop-i.ticks i 0) 1 (ap (λ k. get_or c.loop-i.ticks k 0) (sym index) ∙ c.if-ticks-i-eq-TICK.true))))),
+    )
 
 pub loop-i-preserved : goal.loop-i-preserved
 loop-i-preserved c =
-    let s₀ = slots c.args.nodes.now c.args.terms.now c.args.alternatives.now in
-    let ls = all_lines s₀ in
-    let i : ℕ = c.loop-i.i - 1 in
-    let s : c.loop-i.i ≡ i + 1 = omega (arith, c.loop-i-test.true) in
-    let h : i < length c.args.nodes.now = omega (arith, c.loop-i.auto.i, c.loop-i-test.true) in
-    let long : length ls ≡ length c.args.nodes.now = length-map c.args.nodes.now (line c.args.terms.now c.args.alternatives.now) in
+    let ns = c.args.tables.nodes.now in
+    let rest = c.next.new.self.iter.iter.rest.now in
+    let more = c.loop-i.i-iterator.iter.iter.rest.now in
+    let node = c.in-Some.node.now in
+    let step = c.in-Some.ensures.steps.1.0 in
+    let front = c.loop-i.invariant.2 in
+    let long = last-long ns rest more node step front in
     let same : length c.loop-i.ticks ≡ length c.args.ticks.now = c.loop-i.auto.ticks ∙ length-set c.args.ticks.now c.args.root 1 in
-    let at : line c.args.terms.now c.args.alternatives.now (get_or c.args.nodes.now i blank_node) ≡ line_at ls i =
-    sym (get_or-map (line c.args.terms.now c.args.alternatives.now) c.args.nodes.now i blank_node (constant state true) h) in
-    let inv : Ticks c.loop-i.ticks (reached (i + 1) (drop (i + 1) ls) (c.args.root ∷ [])) =
-    subst (λ (k : ℕ). Ticks c.loop-i.ticks (reached k (drop k ls) (c.args.root ∷ []))) s c.loop-i.invariant in
-    ticks_turn ls (c.args.root ∷ []) i (omega (arith, long)) c.loop-i.ticks c.reach_at.new.ticks (omega (arith, long, same, c.requires.long))
-    (All-weaker (λ d. d < i) (λ d. d < length c.loop-i.ticks) (λ d l. omega (arith, same, c.requires.long)) (parts (line_at ls i)) (formed-ordered ls c.requires.packed.formed i (omega (arith, long))))
-    inv
-    (c.reach_at.ensures ∙ ap (λ (l : Line). cond (eqb (get_or c.loop-i.ticks i 0) 1) (ticked c.loop-i.ticks (parts l)) c.loop-i.ticks) at)
+    let ls = all_lines (contents c.args.tables) in
+    let i : ℕ = length rest in
+    let here : i < length ns = omega (arith, long, c.loop-i.invariant.1) in
+    let lines : length ls ≡ length ns = length-map ns (line c.args.tables.terms.now c.args.tables.alternatives.now) in
+    let at : line c.args.tables.terms.now c.args.tables.alternatives.now node ≡ line_at ls i =
+    ap (line c.args.tables.terms.now c.args.tables.alternatives.now) (sym (last-is ns rest more node step front blank_node))
+    ∙ sym (get_or-map (line c.args.tables.terms.now c.args.tables.alternatives.now) ns i blank_node (constant state true) here) in
+    let index : c.in-Some.i ≡ i = omega (arith, c.in-Some.ensures.steps.1.1, c.loop-i.invariant.0) in
+    let before : Ticks c.loop-i.ticks (reached (i + 1) (drop (i + 1) ls) (c.args.root ∷ [])) =
+    subst (λ (k : ℕ). Ticks c.loop-i.ticks (reached k (drop k ls) (c.args.root ∷ []))) long c.loop-i.invariant.3 in
+    let low = All-weaker (λ d. d < i) (λ d. d < length c.loop-i.ticks) (λ d l. omega (arith, same, here, c.requires.long)) (parts (line_at ls i)) (formed-ordered ls c.requires.packed.formed i (omega (arith, lines, here))) in (
+      c.in-Some.ensures.steps.0 ∙ c.loop-i.invariant.0,
+      omega (arith, here),
+      last-front ns rest more node step front,
+      ticks_turn ls (c.args.root ∷ []) i (omega (arith, lines, here)) c.loop-i.ticks c.loop-i.ticks (omega (arith, lines, same, c.requires.long)) low before
+          (ap (λ (b : Bool). cond b (ticked c.loop-i.ticks (parts (line_at ls i))) c.loop-i.ticks)
+          (sym (ne_eqb (get_or c.loop-i.ticks i 0) 1 (λ z. c.if-ticks-i-eq-TICK.false (ap (λ k. get_or c.loop-i.ticks k 0) index ∙ z))))),
+    )

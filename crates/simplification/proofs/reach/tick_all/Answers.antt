@@ -1,18 +1,20 @@
-use Rattle.std.proofs.Common.{◌<◌, length, get_or, set, sym, ap, ◌∙◌, arith}
-use Rattle.std.proofs.lemmas.List.{take_all}
-use Rattle.std.proofs.ByRecursion.{All-get_or}
-use Rattle.std.proofs.lemmas.List.Sums.{fold_more}
+use Rattle.std.proofs.Common.{map, get_or, take, set, sym, ap, ◌∙◌}
+use Rattle.std.proofs.lemmas.List.{take_all, map_more}
+use Rattle.std.proofs.lemmas.List.Sums.{fold_push}
 use Rattle.simplification.specs.Reaching.{ticked}
 use Rattle.simplification.proofs.reach.tick_all.Goals as goal
 
-pub bounds-ticks-d : goal.bounds-ticks-d
-bounds-ticks-d c =
-    omega (arith, All-get_or (λ d. d < length c.args.ticks.now) c.args.wanted.now c.loop-d.d-index 0 c.loop-d-test.true c.requires, c.loop-d.auto.ticks)
-
-pub loop-d-preserved : goal.loop-d-preserved
-loop-d-preserved c =
-    ap (λ m. set m (get_or c.args.wanted.now c.loop-d.d-index 0) 1) c.loop-d.invariant
-    ∙ sym (fold_more (λ r k. set r k 1) c.args.ticks.now c.args.wanted.now c.loop-d.d-index 0 c.loop-d-test.true)
+pub loop-entry-preserved : goal.loop-entry-preserved
+loop-entry-preserved g c =
+    let part = λ (k : g.row.T.Denot). g.T.Entry.part k in
+    let ks = c.args.wanted.now in
+    let i = c.loop-entry.entry-index in
+    let k = c.entry-item.result in
+    ap (λ m. set m c.part.result 1) c.loop-entry.invariant
+    ∙ (ap (λ j. set (ticked c.args.ticks.now (map part (take i ks))) j 1) (c.part.ensures ∙ ap part c.entry-item.is)
+    ∙ (sym (fold_push (λ r j. set r j 1) c.args.ticks.now (map part (take i ks)) (part (get_or ks i k)))
+    ∙ ap (ticked c.args.ticks.now) (sym (map_more part ks i k c.loop-entry-test.true))))
 
 pub returns : goal.returns
-returns c = c.loop-d.invariant ∙ ap (ticked c.args.ticks.now) (take_all c.loop-d.d-index c.args.wanted.now c.loop-d-test.false)
+returns g c =
+    c.loop-entry.invariant ∙ ap (λ ks. ticked c.args.ticks.now (map (λ k. g.T.Entry.part k) ks)) (take_all c.loop-entry.entry-index c.args.wanted.now c.loop-entry-test.false)

@@ -1,5 +1,6 @@
-use Rattle.std.proofs.Common.{ℕ, ◌<◌, List, length, sym, ap, ◌∙◌, subst, ap₂, arith}
+use Rattle.std.proofs.Common.{◌≡◌, ℕ, ◌<◌, List, map, length, sym, ap, ◌∙◌, subst, ap₂, arith}
 use Rattle.std.specs.List.{AllByRecursion}
+use Rattle.std.proofs.lemmas.List.{map-id}
 use Rattle.std.proofs.ByRecursion.{All-weaker}
 use Rattle.formulas.specs.Lines.{entries}
 use Rattle.simplification.specs.Reaching.{ticked}
@@ -19,6 +20,7 @@ pub returns : goal.returns
 returns c =
     let alts = c.args.alternatives.now in
     let ticks = c.args.ticks.now in
+    let all : (xs ys : List ℕ) → ys ≡ xs → map (λ d. d) ys ≡ xs = λ xs ys e. map-id ys ∙ e in
     c.tick_all-2.ensures
-    ∙ (ap₂ (λ (m ks : List ℕ). ticked m ks) (c.tick_all.ensures ∙ ap (ticked ticks) c.entries_of.ensures) c.entries_of-2.ensures
+    ∙ (ap₂ (λ (m ks : List ℕ). ticked m ks) (c.tick_all.ensures ∙ ap (ticked ticks) (all _ _ c.entries_of.ensures)) (all _ _ c.entries_of-2.ensures)
     ∙ sym (ticked-append ticks (entries alts c.args.moves) (entries alts c.args.heres)))

@@ -1,8 +1,0 @@
-use Rattle.std.proofs.Common.{true}
-use Rattle.simplification.specs.Simplify.{retarget}
-use Rattle.simplification.specs.Compacting.{new_number}
-use Rattle.simplification.proofs.Puts.{Moving}
-use Rattle.simplification.proofs.compact.move_terms.Given as goal
-
-abbrev pub invariant-loop-k : goal.invariant-loop-k
-invariant-loop-k l = Moving (λ _. true) (retarget (new_number l.numbers)) l.initial.terms l.terms l.first l.start l.k l.end

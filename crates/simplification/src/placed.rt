@@ -1,0 +1,15 @@
+// Where nodes and their entries come to stand.
+
+// How far entries go in the tables of terms and alternatives.
+#[derive(Clone, Copy)]
+pub(crate) struct Ends {
+    pub term: u32,
+    pub alternative: u32,
+}
+
+// A node, and where its entries end: in the table of its sort, or in both.
+#[derive(Clone, Copy)]
+pub(crate) struct Placed<N, E> {
+    pub node: N,
+    pub end: E,
+}
