@@ -1,3 +1,4 @@
+pub mod Bounds
 pub mod Claims
 pub mod Verdicts
 pub mod Spots

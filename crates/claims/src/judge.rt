@@ -22,7 +22,7 @@ use crate::tables::Tables;
 use crate::verdict::Verdict;
 use formulas::node::{Node, Run, StateNode};
 use formulas::stands::{formula_in, truth_stands};
-use formulas::tables::{Standing, front};
+use formulas::tables::front;
 use systems::system::System;
 
 // The greatest product of masses.
@@ -246,19 +246,20 @@ fn answer<S: System>(
     ensures truth { truth.new ≡ after result (truth_bytes (S.meaning system.now) claim.now tables.entry) truth.old }
     ensures row { row.new ≡ after result (row_bytes claim.now) row.old }
 {
-    let fills = claim.fills();
+    let standing = claim.standing();
     let removed = claim.mass();
-    let standing = Standing {
-        fills,
-        root: claim.root(),
-    };
     if !formula_in(standing, removed, tables) {
         return Err(Refusal::NoFormula);
     }
     if too_heavy(removed, system.mass()) {
         return Err(Refusal::Heavy);
     }
-    if too_short(fills.nodes, system.states(), truth.len(), row.len()) {
+    if too_short(
+        standing.fills.nodes,
+        system.states(),
+        truth.len(),
+        row.len(),
+    ) {
         return Err(Refusal::Short);
     }
     truth_stands();

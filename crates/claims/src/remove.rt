@@ -10,7 +10,6 @@ use crate::fault::Refusal;
 use crate::law::books_stand;
 use crate::tables::Tables;
 use formulas::node::{Fills, Node, Term};
-use formulas::tables::Standing;
 use quotient::divide::divide;
 use systems::system::System;
 
@@ -25,12 +24,10 @@ fn answer<S: System>(
 ) -> Result<(Claim, Fills), (Claim, Refusal)>
     ensures { Removes (S.meaning system.now) claim (contents tables.entry) (slots nodes.old terms.old alternatives.old) result (slots nodes.new terms.new alternatives.new) }
 {
-    let standing = Standing {
-        fills: claim.fills(),
-        root: claim.root(),
-    };
+    let standing = claim.standing();
     let mass = claim.mass();
     let shared = claim.shared();
+    // Both arms are written out, since the claim goes back with an error.
     match divide(
         standing,
         mass,
@@ -41,13 +38,7 @@ fn answer<S: System>(
         terms,
         alternatives,
     ) {
-        Ok(left) => {
-            let removed = mass * system.mass();
-            Ok((
-                Claim::new(left.fills, left.root, removed, shared),
-                left.fills,
-            ))
-        }
+        Ok(left) => Ok((Claim::new(left, mass * system.mass(), shared), left.fills)),
         Err(why) => Err((claim, why)),
     }
 }

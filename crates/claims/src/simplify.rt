@@ -10,7 +10,6 @@ use crate::claim::Claim;
 use crate::fault::Refusal;
 use crate::law::books_stand;
 use formulas::node::{Fills, Node, Term};
-use formulas::tables::Standing;
 use simplification::in_place::simplify_in_place;
 
 // The answer of simplify, and what it leaves.
@@ -24,18 +23,10 @@ fn answer(
     ensures outcome { Simplifies claim.old (desk (slots nodes.old terms.old alternatives.old) map.old) result claim.new (desk (slots nodes.new terms.new alternatives.new) map.new) }
     ensures settled { LeftSettled result claim.new (slots nodes.new terms.new alternatives.new) }
 {
-    let standing = Standing {
-        fills: claim.fills(),
-        root: claim.root(),
-    };
-    let mass = claim.mass();
-    match simplify_in_place(standing, mass, nodes, terms, alternatives, map) {
-        Ok(new) => {
-            claim.take_up(new.fills, new.root);
-            Ok(new.fills)
-        }
-        Err(why) => Err(why),
-    }
+    let standing = claim.standing();
+    let new = simplify_in_place(standing, claim.mass(), nodes, terms, alternatives, map)?;
+    claim.take_up(new);
+    Ok(new.fills)
 }
 
 // Simplifies a claim's formula in its own tables, and says how much of each table it uses then.
