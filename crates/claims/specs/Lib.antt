@@ -11,3 +11,4 @@ pub mod Books
 pub mod Runs
 pub mod Law
 pub mod Examples
+pub mod Props
