@@ -44,5 +44,5 @@ module _ (low high : ℕ) (xs : List ℕ) (ordered : low ≤ high) (top : high �
       ∙ ap (λ i. get_or xs i 0) (omega arith)
 
 -- zeros over the front
-pub zeroed_front : (n k : ℕ) (mid old : List ℕ) → k ≡ n → mid ≡ replicate n 0 → mid ++ drop k old ≡ over (replicate n 0) old
-zeroed_front n k mid old e zeros = ap₂ (λ m i. m ++ drop i old) zeros (e ∙ sym (length-replicate {A = ℕ} n 0))
+pub zeroed_front : (n : ℕ) (mid old : List ℕ) → mid ≡ replicate n 0 → mid ++ drop n old ≡ over (replicate n 0) old
+zeroed_front n mid old zeros = ap₂ (λ m i. m ++ drop i old) zeros (sym (length-replicate {A = ℕ} n 0))

@@ -124,7 +124,7 @@ fn fill_table<'a, S: System>(system: &'a S, tables: Tables<'a>, truth: &mut [u8]
             upto,
             truths,
         };
-        board.fill_node(&mut rest[0..states], row);
+        board.fill_node(&mut rest[..states], row);
     }
 }
 
@@ -144,7 +144,7 @@ fn evaluate<S: System>(
     ensures truth { truth.new ≡ over (bytes (truths_in (S.meaning system.now) tables.entry) (S.meaning system.now).states (length tables.entry.nodes.now)) truth.old }
     ensures row { row.new ≡ over (replicate (length tables.entry.nodes.now) 0) row.old }
 {
-    row[0..tables.nodes.len()].fill(0);
+    row[..tables.nodes.len()].fill(0);
     fill_table(system, tables, truth, row);
     let truths = Truths {
         bytes: truth,

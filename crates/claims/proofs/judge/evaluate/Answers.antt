@@ -1,4 +1,5 @@
-use Rattle.std.proofs.Common.{◌≡◌, ◌-◌, replicate, length, ap, ◌∙◌, arith}
+use Rattle.std.proofs.Common.{replicate, length, ap, ◌∙◌}
+use Rattle.std.proofs.lemmas.List.{length-take-le}
 use Rattle.formulas.specs.Truths.{at_node}
 use Rattle.claims.specs.Verdicts.{verdict}
 use Rattle.claims.specs.Sums.{lit}
@@ -7,7 +8,6 @@ use Rattle.claims.proofs.Soundness.{some-state}
 use Rattle.claims.proofs.Truthful.{byte-lit}
 use Rattle.claims.proofs.Pastes.{over-agrees}
 use Rattle.claims.proofs.Zeros.{zeroed_front}
-use Rattle.std.proofs.lemmas.List.{length-take-le}
 use Rattle.claims.proofs.judge.evaluate.Goals as goal
 
 pub returns : goal.returns
@@ -15,12 +15,11 @@ returns g c =
     let M = g.S.System.meaning c.args.system.now in
     let T = truths_in M c.args.tables in
     let count = length c.args.tables.nodes.now in
-    let all : count - 0 ≡ count = omega arith in
     let table = c.fill_table.new.truth in
     let first = some-state M (g.met.S.System.sound c.args.system.now) in
     let root = byte-lit (at_node T c.args.root 0) _ (over-agrees M T count c.args.truth.now table c.fill_table.ensures.truth c.args.root 0 c.requires.root first) in
     record {
       value = c.of.ensures ∙ ap verdict (c.holds.ensures ∙ ap (λ n. lit table n c.args.root 0) c.states.ensures ∙ root);
       truth = c.fill_table.ensures.truth;
-      row = c.fill_table.ensures.row ∙ zeroed_front count (count - 0) c.fill.new.self c.args.row.now all (c.fill.ensures.after (λ y e. e) ∙ ap (λ n. replicate n 0) (length-take-le (count - 0) c.args.row.now (omega (arith, c.requires.long)) ∙ all));
+      row = c.fill_table.ensures.row ∙ zeroed_front count c.fill.new.self c.args.row.now (c.fill.ensures.after (λ y e. e) ∙ ap (λ n. replicate n 0) (length-take-le count c.args.row.now c.requires.long));
     }

@@ -1,4 +1,4 @@
-use Rattle.std.proofs.Common.{◌-◌, ◌*◌, ◌++◌, drop, ap, ap₂, ◌∙◌, arith}
+use Rattle.std.proofs.Common.{◌*◌, ◌++◌, drop, ap, ap₂, ◌∙◌, arith}
 use Rattle.claims.specs.Boards.{truths_in}
 use Rattle.claims.proofs.Pastes.{table_more, over-agrees, front-agrees}
 use Rattle.claims.proofs.judge.fill_table.Goals as goal
@@ -29,7 +29,7 @@ loop-upto-preserved g c =
     let n = c.states-states.result in
     let split = c.split_at_mut-known.ensures in
     record {
-      truth = table_more T M.states i (i * n) (n - 0) c.args.truth.now c.loop-upto.truth c.fill_node.new.bytes _ (ap (λ k. i * k) c.states-states.ensures) (omega (arith, c.states-states.ensures)) c.loop-upto.invariant.truth c.fill_node.ensures.bytes
-          (ap₂ (λ a r. a ++ (c.fill_node.new.bytes ++ drop (n - 0) r)) split.front split.back);
+      truth = table_more T M.states i (i * n) n c.args.truth.now c.loop-upto.truth c.fill_node.new.bytes _ (ap (λ k. i * k) c.states-states.ensures) c.states-states.ensures c.loop-upto.invariant.truth c.fill_node.ensures.bytes
+          (ap₂ (λ a r. a ++ (c.fill_node.new.bytes ++ drop n r)) split.front split.back);
       row = c.fill_node.ensures.row ∙ c.loop-upto.invariant.row;
     }
