@@ -72,6 +72,7 @@ module _ (M : Meaning) (c : Claim) (t u : Tables) (size len : ℕ) (p : Passed M
       let alts = take c.fills.alternatives t.alternatives.now in
       let small : c.mass ≤ most_removed M = le-div c.mass 1000000000000000 M.mass some (ltb-false 1000000000000000 (c.mass * M.mass) p.light) in
       subst₃ (SitsIn M) (sym front.nodes) (sym front.terms) (sym front.alternatives) (record {
+        few = omega (arith, c.few.0, length-take-le c.fills.nodes t.nodes.now (leb-true c.fills.nodes (length t.nodes.now) fits.0));
         right = λ i d h. right_up ts alts c.mass (most_removed M) i (get_or ns i d) small (p.right i d h);
         solved = λ i d h. p.law M ns ts alts c.root c.mass i d fits.1 h;
       })

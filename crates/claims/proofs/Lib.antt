@@ -2,7 +2,7 @@ pub mod Soundness
 pub mod Totals
 pub mod Anys
 pub mod Marks
-pub mod Clears
+pub mod Zeros
 pub mod Truthful
 pub mod Fronts
 pub mod Keeping

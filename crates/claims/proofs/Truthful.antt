@@ -1,5 +1,6 @@
 -- What is computed from tables that hold truths is a truth.
 use Rattle.std.proofs.Common.{◌≡◌, ℕ, ◌+◌, ◌*◌, ◌<◌, ◌≤◌, Bool, true, false, cond, not, ◌&&◌, eqb, leb, List, [], ◌∷◌, length, get_or, sum_by, sym, refl, ap, ◌∙◌, ap₂, mul-le-mul_right, mul_assoc, add-mul, one-mul, arith}
+use Rattle.std.specs.Int.{from_bool}
 use Rattle.std.specs.List.{AllByRecursion}
 use Rattle.std.proofs.ByRecursion.{All-weaker}
 use Rattle.std.proofs.lemmas.List.Sums.{sum_by-cons}
@@ -18,8 +19,13 @@ use Rattle.formulas.specs.Truths.{weigh, total, holds_at, holds_of, at_node, of_
 use Rattle.formulas.specs.declared.tables.Tables.{Tables}
 use Rattle.claims.specs.Verdicts.{byte}
 use Rattle.claims.specs.Sums.{lit, RowAt, ReadySum}
-use Rattle.claims.specs.Rows.{lit_row, parts, no_node, Parted, Ready, row_byte}
+use Rattle.claims.specs.Rows.{lit_row, parts, no_node, Parted, Ready}
 use Rattle.claims.specs.Boards.{truths_in, most_removed, Sits, Agrees}
+
+-- a truth as a byte
+pub bool_byte : (b : Bool) (x : ℕ) → x ≡ from_bool b → x ≡ byte b
+bool_byte true x e = e
+bool_byte false x e = e
 
 pub byte-lit : (b : Bool) (x : ℕ) → x ≡ byte b → eqb x 1 ≡ b
 byte-lit true x e = eq-eqb x 1 e
@@ -69,9 +75,9 @@ module _ (M : Meaning) (t : Tables) (table : List ℕ) (j : ℕ) (agrees : Agree
 
   -- node j on a move, from its parts in the row; and in a state
   module _ (sits : Sits M t) (h : j < length t.nodes.now) where
-    pub row_byte-is : (mv : Move) → AllByRecursion (λ u. u.state < M.states) mv → (row : List ℕ) → AllByRecursion (λ p. get_or row p 0 ≡ byte (of_node (truths_in M t) p mv)) (parts (get_or t.nodes.now j no_node)) → row_byte M t.terms.now t.alternatives.now table row (get_or t.nodes.now j no_node) mv ≡ byte (of_node (truths_in M t) j mv)
-    row_byte-is mv w row a =
-        ap byte (of-same (most_removed M) mv w row (get_or t.nodes.now j no_node) (sits.right j no_node h) a ∙ sym (ap (λ u. u.of mv) (sits.solved j no_node h)))
+    pub move-is : (mv : Move) → AllByRecursion (λ u. u.state < M.states) mv → (row : List ℕ) → AllByRecursion (λ p. get_or row p 0 ≡ byte (of_node (truths_in M t) p mv)) (parts (get_or t.nodes.now j no_node)) → holds_of M (lit table M.states) (λ d _. lit_row row d) (line t.terms.now t.alternatives.now (get_or t.nodes.now j no_node)) mv ≡ of_node (truths_in M t) j mv
+    move-is mv w row a =
+        of-same (most_removed M) mv w row (get_or t.nodes.now j no_node) (sits.right j no_node h) a ∙ sym (ap (λ u. u.of mv) (sits.solved j no_node h))
 
     pub state-is : (s : ℕ) → s < M.states → holds_at M (lit table M.states) (of_node (truths_in M t)) (line t.terms.now t.alternatives.now (get_or t.nodes.now j no_node)) s ≡ at_node (truths_in M t) j s
     state-is s l = at_same (most_removed M) s l (get_or t.nodes.now j no_node) (sits.right j no_node h) ∙ sym (ap (λ u. u.at s) (sits.solved j no_node h))

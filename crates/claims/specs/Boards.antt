@@ -1,5 +1,5 @@
 -- Tables that hold a formula, with what is known of its truths on a system.
-use Rattle.std.specs.Prelude.{◌≡◌, ℕ, ◌+◌, ◌*◌, ◌/◌, ◌<◌, ◌≤◌, true, false, ◌||◌, ltb, List, ◌++◌, length, take, drop, nat_lt, slice_index, slice_index_or}
+use Rattle.std.specs.Prelude.{◌≡◌, ℕ, ◌+◌, ◌*◌, ◌/◌, ◌<◌, ◌≤◌, true, false, ◌||◌, ltb, List, length, take, nat_lt, slice_index, slice_index_or}
 use Rattle.std.specs.List.{AllByRecursion}
 use Rattle.systems.specs.Meaning.{Meaning}
 use Rattle.formulas.specs.declared.node.Node.{Node}
@@ -24,6 +24,7 @@ most_removed M = 1000000000000000 / M.mass
 
 -- the tables hold a formula that may be judged on M
 pub record SitsIn (M : Meaning) (ns : List Node) (ts : List Term) (alts : List ℕ) : Type 0 where
+  pub few : length ns ≤ 1048576
   pub right : AllRight ns ts alts (most_removed M)
   pub solved : (i : ℕ) (d : Node) → i < length ns → slice_index_or (truths M (lines ns ts alts)) i never ≡ truth M (truths M (lines ns ts alts)) (line ts alts (slice_index_or ns i d))
 
@@ -34,22 +35,18 @@ Sits M t = SitsIn M t.nodes.now t.terms.now t.alternatives.now
 abbrev pub Agrees : Meaning → List Truth → List ℕ → ℕ → Type 0
 Agrees M T table i = (j s : ℕ) → j < i → s < M.states → slice_index table (j * M.states + s) ≡ byte (at_node T j s)
 
--- besides, the truth table has the truths of the nodes below i, and a row of that length has room for them
-pub record Board (M : Meaning) (t : Tables) (i : ℕ) (table : List ℕ) (len : ℕ) : Type 0 where
+-- besides, a truth table of n states has the truths of the nodes below i
+pub record Board (M : Meaning) (t : Tables) (i n : ℕ) (table : List ℕ) : Type 0 where
   pub sits : Sits M t
   pub nodes : i ≤ length t.nodes.now
+  pub states : n ≡ M.states
   pub rows : i * M.states ≤ length table
-  pub long : i ≤ len
   pub agrees : Agrees M (truths_in M t) table i
 
 -- a run of alternatives that come before node i
 pub record Before (t : Tables) (i : ℕ) (r : Run) : Type 0 where
   pub within : r.first + r.count ≤ length t.alternatives.now
   pub below : AllByRecursion (λ d. d < i) (entries t.alternatives.now r)
-
--- the list with these in place of as many from the place p on
-abbrev pub pasted : ℕ → List ℕ → List ℕ → List ℕ
-pasted p new old = take p old ++ (new ++ drop (p + length new) old)
 
 -- the claim passes the tests of judge, with a truth table and a row of these lengths
 pub record Passed (M : Meaning) (c : Claim) (t : Tables) (size len : ℕ) : Type 0 where

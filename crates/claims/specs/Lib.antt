@@ -1,3 +1,4 @@
+pub mod Bounds
 pub mod Claims
 pub mod Verdicts
 pub mod Spots
@@ -10,3 +11,4 @@ pub mod Books
 pub mod Runs
 pub mod Law
 pub mod Examples
+pub mod Props

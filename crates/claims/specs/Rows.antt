@@ -1,5 +1,5 @@
 -- A row: for each node, whether it holds of one move or point, or a mark that this is wanted.
-use Rattle.std.specs.Prelude.{◌≡◌, ℕ, ◌<◌, ◌≤◌, min, Bool, cond, List, [], ◌∷◌, length, set, fold, ◌==◌, slice_index, slice_index_or, slice_set}
+use Rattle.std.specs.Prelude.{◌≡◌, ℕ, ◌<◌, ◌≤◌, min, Bool, List, [], ◌∷◌, length, set, fold, ◌==◌, slice_index, slice_index_or}
 use Rattle.std.specs.List.{AllByRecursion}
 use Rattle.systems.specs.Meaning.{Meaning, Move}
 use Rattle.formulas.specs.declared.node.Node.{Node}
@@ -8,9 +8,8 @@ use Rattle.formulas.specs.declared.node.StateNode as sn
 use Rattle.formulas.specs.declared.node.DistNode.{DistNode}
 use Rattle.formulas.specs.declared.node.DistNode as dn
 use Rattle.formulas.specs.declared.node.Term.{Term}
-use Rattle.formulas.specs.Lines.{line}
-use Rattle.formulas.specs.Truths.{Truth, holds_of, of_node}
-use Rattle.claims.specs.Sums.{lit, ReadySum}
+use Rattle.formulas.specs.Truths.{Truth, of_node}
+use Rattle.claims.specs.Sums.{ReadySum}
 use Rattle.claims.specs.Verdicts.{byte}
 
 abbrev pub lit_row : List ℕ → ℕ → Bool
@@ -27,16 +26,13 @@ abbrev pub lowest : ℕ → List ℕ → ℕ
 lowest low ks = fold min low ks
 
 -- the nodes that an and or a not of the distribution sort is made of
-abbrev pub dist_parts : DistNode → List ℕ
-dist_parts dn.TheVariants.Yes = []
-dist_parts dn.TheVariants.No = []
-dist_parts (dn.TheVariants.And i j) = i ∷ j ∷ []
-dist_parts (dn.TheVariants.Not i) = i ∷ []
-dist_parts (dn.TheVariants.Sum t r) = []
-
 abbrev pub parts : Node → List ℕ
 parts (State x) = []
-parts (Dist x) = dist_parts x
+parts (Dist dn.TheVariants.Yes) = []
+parts (Dist dn.TheVariants.No) = []
+parts (Dist (dn.TheVariants.And i j)) = i ∷ j ∷ []
+parts (Dist (dn.TheVariants.Not i)) = i ∷ []
+parts (Dist (dn.TheVariants.Sum t r)) = []
 
 -- what is read past the end of a table of nodes
 abbrev pub no_node : Node
@@ -64,25 +60,13 @@ pub record Reached (ns : List Node) (wanted : List ℕ) (upto low high : ℕ) (o
   pub above : (k : ℕ) → high ≤ k → slice_index row k ≡ slice_index old k
 
 -- what it takes to evaluate a node of the distribution sort with a truth table of that size and a row of that length
-abbrev pub ReadyDist : Meaning → ℕ → ℕ → List Term → DistNode → Type 0
-ReadyDist M size len ts dn.TheVariants.Yes = Unit {0}
-ReadyDist M size len ts dn.TheVariants.No = Unit {0}
-ReadyDist M size len ts (dn.TheVariants.And i j) = (i < len) × (j < len)
-ReadyDist M size len ts (dn.TheVariants.Not i) = i < len
-ReadyDist M size len ts (dn.TheVariants.Sum t r) = ReadySum M size ts t r
-
 abbrev pub Ready : Meaning → ℕ → ℕ → List Term → Node → Type 0
 Ready M size len ts (State x) = Unit {0}
-Ready M size len ts (Dist x) = ReadyDist M size len ts x
-
--- the byte of a node by the tables
-abbrev pub row_byte : Meaning → List Term → List ℕ → List ℕ → List ℕ → Node → Move → ℕ
-row_byte M ts alts table row n mv = byte (holds_of M (lit table M.states) (λ d _. lit_row row d) (line ts alts n) mv)
-
--- the row with the byte of node j in place of a mark
-abbrev pub settled : Meaning → List Node → List Term → List ℕ → List ℕ → Move → ℕ → List ℕ → List ℕ
-settled M ns ts alts table mv j row =
-    cond (slice_index row j == 2) (slice_set row j (row_byte M ts alts table row (slice_index_or ns j no_node) mv)) row
+Ready M size len ts (Dist dn.TheVariants.Yes) = Unit {0}
+Ready M size len ts (Dist dn.TheVariants.No) = Unit {0}
+Ready M size len ts (Dist (dn.TheVariants.And i j)) = (i < len) × (j < len)
+Ready M size len ts (Dist (dn.TheVariants.Not i)) = i < len
+Ready M size len ts (Dist (dn.TheVariants.Sum t r)) = ReadySum M size ts t r
 
 -- the marks below j have become the truths of the move; only they have changed
 pub record Filling (T : List Truth) (mv : Move) (low j : ℕ) (old row : List ℕ) : Type 0 where
@@ -90,11 +74,7 @@ pub record Filling (T : List Truth) (mv : Move) (low j : ℕ) (old row : List �
   pub below : (k : ℕ) → k < low → slice_index row k ≡ slice_index old k
   pub above : (k : ℕ) → j ≤ k → slice_index row k ≡ slice_index old k
 
--- the places from low to high are 0, the others as they were
-pub record Cleared (low high : ℕ) (old row : List ℕ) : Type 0 where
-  pub zeros : (k : ℕ) → low ≤ k → k < high → slice_index row k ≡ 0
-  pub below : (k : ℕ) → k < low → slice_index row k ≡ slice_index old k
-  pub above : (k : ℕ) → high ≤ k → slice_index row k ≡ slice_index old k
-
-abbrev pub Clear : ℕ → List ℕ → Type 0
-Clear upto row = (k : ℕ) → k < upto → slice_index row k ≡ 0
+-- a row with room for upto nodes, and no mark or truth of theirs
+pub record Blank (upto : ℕ) (row : List ℕ) : Type 0 where
+  pub long : upto ≤ length row
+  pub zeros : (k : ℕ) → k < upto → slice_index row k ≡ 0

@@ -1,5 +1,5 @@
 -- What judge answers, and what it leaves in its two tables.
-use Rattle.std.specs.Prelude.{ℕ, ◌*◌, Bool, true, false, cond, not, ◌||◌, List, map, replicate, Ok, Err, Result, nat_lt}
+use Rattle.std.specs.Prelude.{ℕ, ◌*◌, Bool, true, false, cond, not, ◌||◌, List, map, replicate, Ok, Err, Result, codes, nat_lt}
 use Rattle.std.specs.List.{range_with_len, flat_map}
 use Rattle.systems.specs.Meaning.{Meaning}
 use Rattle.formulas.specs.Tables.{contents, over, stands_in, lines_in}
@@ -16,6 +16,11 @@ use Rattle.claims.specs.Claims.{formula}
 abbrev pub verdict : Bool → Verdict
 verdict true = Yes
 verdict false = No
+
+-- how it is printed
+abbrev pub word : Verdict → List ℕ
+word Yes = codes "yes"
+word No = codes "no"
 
 -- the answer of judge on a system that means M, with a truth table and a row of these lengths
 abbrev pub judged : Meaning → Claim → Tables → ℕ → ℕ → Result Verdict Refusal

@@ -1,7 +1,9 @@
 // A formula with the mass removed from its system, and the actions that removed systems share.
-ghost use Rattle.std.specs.Prelude.{◌≡◌, ◌≤◌};
+ghost use Rattle.std.specs.Prelude.{◌≡◌};
+ghost use Rattle.claims.specs.Bounds.{Few, Weighed};
 
 use formulas::node::Fills;
+use formulas::tables::Standing;
 use systems::actions::ActionSet;
 
 // It is moved and never copied: a call that takes it uses it up.
@@ -11,19 +13,20 @@ pub struct Claim {
     root: u32,
     mass: u64,
     shared: ActionSet,
-    ghost few: { (fills.nodes ≤ 1048576) × (fills.terms ≤ 1048576) × (fills.alternatives ≤ 1048576) },
-    ghost weighed: { (1 ≤ mass) × (mass ≤ 1000000000000000) },
+    ghost few: { Few fills },
+    ghost weighed: { Weighed mass },
 }
 
 impl Claim {
-    pub(crate) fn new(fills: Fills, root: u32, mass: u64, shared: ActionSet) -> Claim
-        requires few { (fills.nodes ≤ 1048576) × (fills.terms ≤ 1048576) × (fills.alternatives ≤ 1048576) }
-        requires weighed { (1 ≤ mass) × (mass ≤ 1000000000000000) }
-        ensures fills { result.fills ≡ fills }
-        ensures root { result.root ≡ root }
+    pub(crate) fn new(standing: Standing, mass: u64, shared: ActionSet) -> Claim
+        requires few { Few standing.fills }
+        requires weighed { Weighed mass }
+        ensures fills { result.fills ≡ standing.fills }
+        ensures root { result.root ≡ standing.root }
         ensures mass { result.mass ≡ mass }
         ensures shared { result.shared ≡ shared }
     {
+        let Standing { fills, root } = standing;
         Claim {
             fills,
             root,
@@ -32,17 +35,28 @@ impl Claim {
         }
     }
 
+    // Where the formula stands in its tables.
+    pub fn standing(&self) -> Standing
+        ensures fills { result.fills ≡ self.now.fills }
+        ensures root { result.root ≡ self.now.root }
+    {
+        Standing {
+            fills: self.fills,
+            root: self.root,
+        }
+    }
+
     // How much of each table the formula uses.
     pub fn fills(&self) -> Fills
         ensures { result ≡ self.now.fills }
     {
-        self.fills
+        self.standing().fills
     }
 
     pub fn root(&self) -> u32
         ensures { result ≡ self.now.root }
     {
-        self.root
+        self.standing().root
     }
 
     // The product of the masses removed, 1 if there are none.
@@ -60,13 +74,14 @@ impl Claim {
     }
 
     // Takes up another formula. The mass and the shared actions stay.
-    pub(crate) fn take_up(&mut self, fills: Fills, root: u32)
-        requires { (fills.nodes ≤ 1048576) × (fills.terms ≤ 1048576) × (fills.alternatives ≤ 1048576) }
-        ensures fills { self.new.fills ≡ fills }
-        ensures root { self.new.root ≡ root }
+    pub(crate) fn take_up(&mut self, standing: Standing)
+        requires { Few standing.fills }
+        ensures fills { self.new.fills ≡ standing.fills }
+        ensures root { self.new.root ≡ standing.root }
         ensures mass { self.new.mass ≡ self.old.mass }
         ensures shared { self.new.shared ≡ self.old.shared }
     {
-        *self = Claim::new(fills, root, Claim::mass(self), Claim::shared(self));
+        self.fills = standing.fills;
+        self.root = standing.root;
     }
 }

@@ -1,180 +1,130 @@
 // Whether the formula of a claim holds of a system.
 ghost use Rattle.std.specs.Prelude.{◌≡◌, ◌+◌, ◌*◌, ◌<◌, ◌≤◌, ◌||◌, length, replicate, is_err, Ok, nat_lt};
-ghost use Rattle.systems.specs.Meaning.{point};
 ghost use Rattle.formulas.specs.Lines.{line, state_line, entries};
 ghost use Rattle.formulas.specs.Right.{Right, RightState};
 ghost use Rattle.formulas.specs.Truths.{any, holds_at, at_node, of_node};
 ghost use Rattle.formulas.specs.Tables.{contents, over};
-ghost use Rattle.claims.specs.Verdicts.{verdict, judged, byte, node_bytes, bytes, truth_bytes, row_bytes, after};
-ghost use Rattle.claims.specs.Sums.{lit, RowAt};
-ghost use Rattle.claims.specs.Rows.{Clear};
-ghost use Rattle.claims.specs.Boards.{truths_in, most_removed, Sits, Board, Before, pasted, Passed};
+ghost use Rattle.claims.specs.Verdicts.{verdict, judged, node_bytes, bytes, truth_bytes, row_bytes, after};
+ghost use Rattle.claims.specs.Sums.{lit};
+ghost use Rattle.claims.specs.Rows.{Blank};
+ghost use Rattle.claims.specs.Boards.{truths_in, most_removed, Sits, Before, Passed};
 ghost use Rattle.claims.specs.Books.{judging, entry, Book, fed, stage, Stands};
 ghost use Rattle.claims.specs.Law.{Said};
 
+use crate::board::{Board, Site};
 use crate::claim::Claim;
 use crate::fault::Refusal;
 use crate::law::books_stand;
-use crate::row::{Span, clear, some_holds};
 use crate::spot::Spot;
-use crate::sum::is_lit;
 use crate::tables::Tables;
+use crate::truths::Truths;
 use crate::verdict::Verdict;
 use formulas::node::{Node, Run, StateNode};
 use formulas::stands::{formula_in, truth_stands};
-use formulas::tables::{Standing, front};
+use formulas::tables::front;
 use systems::system::System;
 
 // The greatest product of masses.
 const MOST_MASS: u128 = 1000000000000000;
 
-// Whether some alternative of the run holds of some move of the state on the action.
-fn some_move<S: System>(
-    system: &S,
-    state: u32,
-    action: u32,
-    tables: Tables,
-    upto: usize,
-    run: Run,
-    truth: &[u8],
-    row: &mut [u8],
-) -> bool
-    requires board { Board (S.meaning system.now) tables upto truth.now (length row.old) }
-    requires clear { Clear upto row.old }
-    requires run { Before tables upto run }
-    ensures value { result ≡ any (λ mv. any (λ d. of_node (truths_in (S.meaning system.now) tables.entry) d mv) (entries tables.entry.alternatives.now run)) ((S.meaning system.now).moves state action) }
-    ensures row { row.new ≡ row.old }
-{
-    let count = system.moves(state, action);
-    for place in 0..count {
-        if some_holds(
-            system,
-            Spot::Along(state, action, place),
-            tables,
-            upto,
-            run,
-            truth,
-            row,
-        ) {
-            return true;
-        }
-    }
-    false
-}
-
-fn step_holds<S: System>(
-    system: &S,
-    state: u32,
-    action: u32,
-    tables: Tables,
-    upto: usize,
-    moves: Run,
-    heres: Run,
-    truth: &[u8],
-    row: &mut [u8],
-) -> bool
-    requires inside { state < (S.meaning system.now).states }
-    requires board { Board (S.meaning system.now) tables upto truth.now (length row.old) }
-    requires clear { Clear upto row.old }
-    requires moves { Before tables upto moves }
-    requires heres { Before tables upto heres }
-    ensures value { result ≡ (any (λ mv. any (λ d. of_node (truths_in (S.meaning system.now) tables.entry) d mv) (entries tables.entry.alternatives.now moves)) ((S.meaning system.now).moves state action) || any (λ d. of_node (truths_in (S.meaning system.now) tables.entry) d (point (S.meaning system.now) state)) (entries tables.entry.alternatives.now heres)) }
-    ensures row { row.new ≡ row.old }
-{
-    if some_move(system, state, action, tables, upto, moves, truth, row) {
-        return true;
-    }
-    some_holds(system, Spot::Here(state), tables, upto, heres, truth, row)
-}
-
-// Whether a node of the state sort holds in a state, with the truths of the nodes before it.
-fn state_holds<S: System>(
-    system: &S,
-    state: u32,
-    tables: Tables,
-    i: usize,
-    node: StateNode,
-    truth: &[u8],
-    row: &mut [u8],
-) -> bool
-    requires inside { state < (S.meaning system.now).states }
-    requires board { Board (S.meaning system.now) tables i truth.now (length row.old) }
-    requires clear { Clear i row.old }
-    requires right { RightState tables.alternatives.now i node }
-    ensures value { result ≡ holds_at (S.meaning system.now) (lit truth.now (S.meaning system.now).states) (of_node (truths_in (S.meaning system.now) tables.entry)) (state_line tables.entry.alternatives.now node) state }
-    ensures row { row.new ≡ row.old }
-{
-    let n = system.states() as usize;
-    match node {
-        StateNode::Yes => true,
-        StateNode::No => false,
-        StateNode::And(j, k) => is_lit(truth, n, j, state) && is_lit(truth, n, k, state),
-        StateNode::Not(j) => !is_lit(truth, n, j, state),
-        StateNode::Step {
-            action,
-            moves,
-            heres,
-        } => step_holds(system, state, action, tables, i, moves, heres, truth, row),
-    }
-}
-
-// The byte of a node in a state: 0 for one of the distribution sort.
-fn byte_in<S: System>(
-    system: &S,
-    state: u32,
-    tables: Tables,
-    i: usize,
-    node: Node,
-    truth: &[u8],
-    row: &mut [u8],
-) -> u8
-    requires inside { state < (S.meaning system.now).states }
-    requires board { Board (S.meaning system.now) tables i truth.now (length row.old) }
-    requires clear { Clear i row.old }
-    requires right { Right tables.terms.now tables.alternatives.now (most_removed (S.meaning system.now)) i node }
-    ensures value { result ≡ byte (holds_at (S.meaning system.now) (lit truth.now (S.meaning system.now).states) (of_node (truths_in (S.meaning system.now) tables.entry)) (line tables.entry.terms.now tables.entry.alternatives.now node) state) }
-    ensures row { row.new ≡ row.old }
-{
-    match node {
-        Node::State(x) => {
-            if state_holds(system, state, tables, i, x, truth, row) {
-                1
-            } else {
-                0
+impl<S: System> Board<'_, '_, S> {
+    // Whether some alternative of the run holds of some move of the state on the action.
+    fn some_move(self, state: u32, action: u32, run: Run, row: &mut [u8]) -> bool
+        requires blank { Blank self.upto row.old }
+        requires run { Before self.tables self.upto run }
+        ensures value { let M = S.meaning self.entry.system.now in let t = self.entry.tables in result ≡ any (λ mv. any (λ d. of_node (truths_in M t) d mv) (entries t.alternatives.now run)) (M.moves state action) }
+        ensures row { row.new ≡ row.old }
+    {
+        for place in 0..self.system.moves(state, action) {
+            let site = Site {
+                board: self,
+                spot: Spot::Along(state, action, place),
+            };
+            if site.some_holds(run, row) {
+                return true;
             }
         }
-        Node::Dist(_) => 0,
+        false
     }
-}
 
-// Fills in the bytes of node `i`, one for each state.
-fn fill_node<S: System>(system: &S, tables: Tables, i: usize, truth: &mut [u8], row: &mut [u8])
-    requires board { Board (S.meaning system.now) tables i truth.old (length row.old) }
-    requires clear { Clear i row.old }
-    requires node { i < length tables.nodes.now }
-    requires room { RowAt (S.meaning system.now).states (length truth.old) i }
-    ensures truth { truth.new ≡ pasted (i * (S.meaning system.now).states) (node_bytes (truths_in (S.meaning system.now) tables.entry) (S.meaning system.now).states i) truth.old }
-    ensures row { row.new ≡ row.old }
-{
-    let n = system.states();
-    for state in 0..n {
-        let value = byte_in(system, state, tables, i, tables.nodes[i], truth, row);
-        truth[i * n as usize + state as usize] = value;
+    // Whether a node of the state sort holds in a state.
+    fn state_holds(self, state: u32, node: StateNode, row: &mut [u8]) -> bool
+        requires inside { state < (S.meaning self.system.now).states }
+        requires blank { Blank self.upto row.old }
+        requires right { RightState self.tables.alternatives.now self.upto node }
+        ensures value { let M = S.meaning self.entry.system.now in let t = self.entry.tables in result ≡ holds_at M (lit self.entry.truths.bytes.now M.states) (of_node (truths_in M t)) (state_line t.alternatives.now node) state }
+        ensures row { row.new ≡ row.old }
+    {
+        match node {
+            StateNode::Yes => true,
+            StateNode::No => false,
+            StateNode::And(j, k) => self.truths.holds(j, state) && self.truths.holds(k, state),
+            StateNode::Not(j) => !self.truths.holds(j, state),
+            StateNode::Step {
+                action,
+                moves,
+                heres,
+            } => {
+                let here = Site {
+                    board: self,
+                    spot: Spot::Here(state),
+                };
+                self.some_move(state, action, moves, row) || here.some_holds(heres, row)
+            }
+        }
+    }
+
+    // Whether a node holds in a state. One of the distribution sort does not.
+    fn holds(self, state: u32, node: Node, row: &mut [u8]) -> bool
+        requires inside { state < (S.meaning self.system.now).states }
+        requires blank { Blank self.upto row.old }
+        requires right { Right self.tables.terms.now self.tables.alternatives.now (most_removed (S.meaning self.system.now)) self.upto node }
+        ensures value { let M = S.meaning self.entry.system.now in let t = self.entry.tables in result ≡ holds_at M (lit self.entry.truths.bytes.now M.states) (of_node (truths_in M t)) (line t.terms.now t.alternatives.now node) state }
+        ensures row { row.new ≡ row.old }
+    {
+        match node {
+            Node::State(x) => self.state_holds(state, x, row),
+            Node::Dist(_) => false,
+        }
+    }
+
+    // Fills in the bytes of the node whose turn it is, one for each state.
+    fn fill_node(self, bytes: &mut [u8], row: &mut [u8])
+        requires node { self.upto < length self.tables.nodes.now }
+        requires room { length bytes.old ≡ (S.meaning self.system.now).states }
+        requires blank { Blank self.upto row.old }
+        ensures bytes { let M = S.meaning self.entry.system.now in bytes.new ≡ node_bytes (truths_in M self.entry.tables) M.states self.entry.upto }
+        ensures row { row.new ≡ row.old }
+    {
+        let node = self.tables.nodes[self.upto];
+        for (state, byte) in bytes.iter_mut().enumerate() {
+            *byte = u8::from(self.holds(state as u32, node, row));
+        }
     }
 }
 
 // Fills in the bytes of all nodes.
-fn fill_table<S: System>(system: &S, tables: Tables, truth: &mut [u8], row: &mut [u8])
+fn fill_table<'a, S: System>(system: &'a S, tables: Tables<'a>, truth: &mut [u8], row: &mut [u8])
     requires sits { Sits (S.meaning system.now) tables }
     requires room { length tables.nodes.now * (S.meaning system.now).states ≤ length truth.old }
-    requires long { length tables.nodes.now ≤ length row.old }
-    requires clear { Clear (length tables.nodes.now) row.old }
+    requires blank { Blank (length tables.nodes.now) row.old }
     ensures truth { truth.new ≡ over (bytes (truths_in (S.meaning system.now) tables.entry) (S.meaning system.now).states (length tables.entry.nodes.now)) truth.old }
     ensures row { row.new ≡ row.old }
 {
-    let count = tables.nodes.len();
-    for i in 0..count {
-        fill_node(system, tables, i, truth, row);
+    let states = system.states() as usize;
+    for upto in 0..tables.nodes.len() {
+        let (known, rest) = truth.split_at_mut(upto * states);
+        let truths = Truths {
+            bytes: known,
+            states,
+        };
+        let board = Board {
+            system,
+            tables,
+            upto,
+            truths,
+        };
+        board.fill_node(&mut rest[..states], row);
     }
 }
 
@@ -194,13 +144,13 @@ fn evaluate<S: System>(
     ensures truth { truth.new ≡ over (bytes (truths_in (S.meaning system.now) tables.entry) (S.meaning system.now).states (length tables.entry.nodes.now)) truth.old }
     ensures row { row.new ≡ over (replicate (length tables.entry.nodes.now) 0) row.old }
 {
-    let span = Span {
-        low: 0,
-        high: tables.nodes.len(),
-    };
-    clear(span, row);
+    row[..tables.nodes.len()].fill(0);
     fill_table(system, tables, truth, row);
-    Verdict::of(is_lit(truth, system.states() as usize, root, 0))
+    let truths = Truths {
+        bytes: truth,
+        states: system.states() as usize,
+    };
+    Verdict::of(truths.holds(root, 0))
 }
 
 // The verdict on a claim that passes the tests.
@@ -246,19 +196,20 @@ fn answer<S: System>(
     ensures truth { truth.new ≡ after result (truth_bytes (S.meaning system.now) claim.now tables.entry) truth.old }
     ensures row { row.new ≡ after result (row_bytes claim.now) row.old }
 {
-    let fills = claim.fills();
+    let standing = claim.standing();
     let removed = claim.mass();
-    let standing = Standing {
-        fills,
-        root: claim.root(),
-    };
     if !formula_in(standing, removed, tables) {
         return Err(Refusal::NoFormula);
     }
     if too_heavy(removed, system.mass()) {
         return Err(Refusal::Heavy);
     }
-    if too_short(fills.nodes, system.states(), truth.len(), row.len()) {
+    if too_short(
+        standing.fills.nodes,
+        system.states(),
+        truth.len(),
+        row.len(),
+    ) {
         return Err(Refusal::Short);
     }
     truth_stands();

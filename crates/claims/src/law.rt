@@ -9,7 +9,7 @@ use systems::pile::pile_stands;
 
 // Whatever calls are made on a new claim, refused ones among them: its formula says of a system what the first formula
 // says of the removed systems piled over it, every verdict is that truth, and the order of removals does not matter.
-pub fn runs_stand() -> u8
+pub fn runs_stand()
     ensures { LawOfRuns }
 {
     tables_stand();
@@ -18,11 +18,11 @@ pub fn runs_stand() -> u8
     stack_stands();
     pile_stands();
     truth_kept_stands();
-    settled_stands()
+    settled_stands();
 }
 
 // Each call keeps every book that is right about its claim.
-pub(crate) fn books_stand() -> u8
+pub(crate) fn books_stand()
     ensures remove { RemoveKeeps }
     ensures simplify { SimplifyKeeps }
     ensures judge { JudgeKeeps }
@@ -32,12 +32,10 @@ pub(crate) fn books_stand() -> u8
     quotient_stands();
     stack_stands();
     pile_stands();
-    truth_kept_stands()
+    truth_kept_stands();
 }
 
 // The worked examples, computed by the definitions.
-pub fn examples_stand() -> u8
+pub fn examples_stand()
     ensures { WorkedExamples }
-{
-    0
-}
+{}

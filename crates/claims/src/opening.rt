@@ -27,7 +27,7 @@ fn claim_of(draft: Draft, tables: Tables, shared: ActionSet) -> Result<Claim, (D
     if !formula_in(standing, removed, tables) {
         return Err((draft, Refusal::NoFormula));
     }
-    Ok(Claim::new(standing.fills, standing.root, removed, shared))
+    Ok(Claim::new(standing, removed, shared))
 }
 
 // Opens a draft as a new claim, whose runs of calls keep to the law. A refused draft is given back.

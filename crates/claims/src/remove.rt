@@ -1,6 +1,6 @@
 // Removing a system from a claim: what the rest still owes, written to second tables.
 ghost use Rattle.std.specs.Prelude.{is_err};
-ghost use Rattle.formulas.specs.Tables.{slots, contents};
+ghost use Rattle.formulas.specs.Tables.{contents, held, SameLoans};
 ghost use Rattle.claims.specs.Books.{removing, entry, Book, fed, stage, Stands};
 ghost use Rattle.claims.specs.Removals.{Removes};
 ghost use Rattle.claims.specs.Runs.{onward};
@@ -9,8 +9,8 @@ use crate::claim::Claim;
 use crate::fault::Refusal;
 use crate::law::books_stand;
 use crate::tables::Tables;
-use formulas::node::{Fills, Node, Term};
-use formulas::tables::Standing;
+use formulas::node::Fills;
+use formulas::tables::TablesMut;
 use quotient::divide::divide;
 use systems::system::System;
 
@@ -19,35 +19,26 @@ fn answer<S: System>(
     claim: Claim,
     tables: Tables,
     system: &S,
-    nodes: &mut [Node],
-    terms: &mut [Term],
-    alternatives: &mut [u32],
+    second: &mut TablesMut,
 ) -> Result<(Claim, Fills), (Claim, Refusal)>
-    ensures { Removes (S.meaning system.now) claim (contents tables.entry) (slots nodes.old terms.old alternatives.old) result (slots nodes.new terms.new alternatives.new) }
+    ensures lent { SameLoans second.old second.new }
+    ensures outcome { Removes (S.meaning system.now) claim (contents tables.entry) (held second.old) result (held second.new) }
 {
-    let standing = Standing {
-        fills: claim.fills(),
-        root: claim.root(),
-    };
+    let standing = claim.standing();
     let mass = claim.mass();
     let shared = claim.shared();
+    // Both arms are written out, since the claim goes back with an error.
     match divide(
         standing,
         mass,
         shared,
         tables,
         system,
-        nodes,
-        terms,
-        alternatives,
+        second.nodes,
+        second.terms,
+        second.alternatives,
     ) {
-        Ok(left) => {
-            let removed = mass * system.mass();
-            Ok((
-                Claim::new(left.fills, left.root, removed, shared),
-                left.fills,
-            ))
-        }
+        Ok(left) => Ok((Claim::new(left, mass * system.mass(), shared), left.fills)),
         Err(why) => Err((claim, why)),
     }
 }
@@ -58,13 +49,12 @@ pub fn remove<S: System>(
     claim: Claim,
     tables: Tables,
     system: &S,
-    nodes: &mut [Node],
-    terms: &mut [Term],
-    alternatives: &mut [u32],
+    second: &mut TablesMut,
 ) -> Result<(Claim, Fills), (Claim, Refusal)>
-    ensures outcome { Removes (S.meaning system.now) claim (contents tables.entry) (slots nodes.old terms.old alternatives.old) result (slots nodes.new terms.new alternatives.new) }
-    ensures book { (k : Book) → Stands k (stage claim (contents tables.entry)) → Stands (fed k (entry (removing (S.meaning system.now)) (is_err result))) (onward (contents tables.entry) result (slots nodes.new terms.new alternatives.new)) }
+    ensures lent { SameLoans second.old second.new }
+    ensures outcome { Removes (S.meaning system.now) claim (contents tables.entry) (held second.old) result (held second.new) }
+    ensures book { (k : Book) → Stands k (stage claim (contents tables.entry)) → Stands (fed k (entry (removing (S.meaning system.now)) (is_err result))) (onward (contents tables.entry) result (held second.new)) }
 {
     books_stand();
-    answer(claim, tables, system, nodes, terms, alternatives)
+    answer(claim, tables, system, second)
 }

@@ -1,6 +1,6 @@
 // Simplifying a claim in its own tables.
 ghost use Rattle.std.specs.Prelude.{is_err};
-ghost use Rattle.formulas.specs.Tables.{slots};
+ghost use Rattle.formulas.specs.Tables.{held, SameLoans};
 ghost use Rattle.simplification.specs.Tables.{desk};
 ghost use Rattle.claims.specs.Books.{simplifying, entry, Book, fed, stage, Stands};
 ghost use Rattle.claims.specs.Law.{LeftSettled};
@@ -9,48 +9,41 @@ ghost use Rattle.claims.specs.Simplifications.{Simplifies};
 use crate::claim::Claim;
 use crate::fault::Refusal;
 use crate::law::books_stand;
-use formulas::node::{Fills, Node, Term};
-use formulas::tables::Standing;
+use formulas::node::Fills;
+use formulas::tables::TablesMut;
 use simplification::in_place::simplify_in_place;
 
 // The answer of simplify, and what it leaves.
-fn answer(
-    claim: &mut Claim,
-    nodes: &mut [Node],
-    terms: &mut [Term],
-    alternatives: &mut [u32],
-    map: &mut [u32],
-) -> Result<Fills, Refusal>
-    ensures outcome { Simplifies claim.old (desk (slots nodes.old terms.old alternatives.old) map.old) result claim.new (desk (slots nodes.new terms.new alternatives.new) map.new) }
-    ensures settled { LeftSettled result claim.new (slots nodes.new terms.new alternatives.new) }
+fn answer(claim: &mut Claim, tables: &mut TablesMut, map: &mut [u32]) -> Result<Fills, Refusal>
+    ensures lent { SameLoans tables.old tables.new }
+    ensures outcome { Simplifies claim.old (desk (held tables.old) map.old) result claim.new (desk (held tables.new) map.new) }
+    ensures settled { LeftSettled result claim.new (held tables.new) }
 {
-    let standing = Standing {
-        fills: claim.fills(),
-        root: claim.root(),
-    };
-    let mass = claim.mass();
-    match simplify_in_place(standing, mass, nodes, terms, alternatives, map) {
-        Ok(new) => {
-            claim.take_up(new.fills, new.root);
-            Ok(new.fills)
-        }
-        Err(why) => Err(why),
-    }
+    let standing = claim.standing();
+    let new = simplify_in_place(
+        standing,
+        claim.mass(),
+        tables.nodes,
+        tables.terms,
+        tables.alternatives,
+        map,
+    )?;
+    claim.take_up(new);
+    Ok(new.fills)
 }
 
 // Simplifies a claim's formula in its own tables, and says how much of each table it uses then.
 // The map needs an entry for each node, and is cleared. A refusal changes nothing.
 pub fn simplify(
     claim: &mut Claim,
-    nodes: &mut [Node],
-    terms: &mut [Term],
-    alternatives: &mut [u32],
+    tables: &mut TablesMut,
     map: &mut [u32],
 ) -> Result<Fills, Refusal>
-    ensures outcome { Simplifies claim.old (desk (slots nodes.old terms.old alternatives.old) map.old) result claim.new (desk (slots nodes.new terms.new alternatives.new) map.new) }
-    ensures settled { LeftSettled result claim.new (slots nodes.new terms.new alternatives.new) }
-    ensures book { (k : Book) → Stands k (stage claim.old (slots nodes.old terms.old alternatives.old)) → Stands (fed k (entry simplifying (is_err result))) (stage claim.new (slots nodes.new terms.new alternatives.new)) }
+    ensures lent { SameLoans tables.old tables.new }
+    ensures outcome { Simplifies claim.old (desk (held tables.old) map.old) result claim.new (desk (held tables.new) map.new) }
+    ensures settled { LeftSettled result claim.new (held tables.new) }
+    ensures book { (k : Book) → Stands k (stage claim.old (held tables.old)) → Stands (fed k (entry simplifying (is_err result))) (stage claim.new (held tables.new)) }
 {
     books_stand();
-    answer(claim, nodes, terms, alternatives, map)
+    answer(claim, tables, map)
 }

@@ -12,22 +12,24 @@ pub(crate) enum Spot {
     Here(u32),
 }
 
-// How many targets there are.
-pub(crate) fn targets<S: System>(system: &S, spot: Spot) -> u32
-    ensures { result ≡ length (spot_of (S.meaning system.now) spot) }
-{
-    match spot {
-        Spot::Along(state, action, place) => system.targets(state, action, place),
-        Spot::Here(_) => 1,
+impl Spot {
+    // How many targets there are.
+    pub(crate) fn targets<S: System>(self, system: &S) -> u32
+        ensures { result ≡ length (spot_of (S.meaning system.now) self) }
+    {
+        match self {
+            Spot::Along(state, action, place) => system.targets(state, action, place),
+            Spot::Here(_) => 1,
+        }
     }
-}
 
-pub(crate) fn target<S: System>(system: &S, spot: Spot, index: u32) -> Option<Target>
-    ensures { result ≡ slice_get (spot_of (S.meaning system.now) spot) index }
-{
-    match spot {
-        Spot::Along(state, action, place) => system.target(state, action, place, index),
-        Spot::Here(state) => point(state, system.mass(), index),
+    pub(crate) fn target<S: System>(self, system: &S, index: u32) -> Option<Target>
+        ensures { result ≡ slice_get (spot_of (S.meaning system.now) self) index }
+    {
+        match self {
+            Spot::Along(state, action, place) => system.target(state, action, place, index),
+            Spot::Here(state) => point(state, system.mass(), index),
+        }
     }
 }
 
@@ -35,12 +37,8 @@ pub(crate) fn target<S: System>(system: &S, spot: Spot, index: u32) -> Option<Ta
 fn point(state: u32, mass: u64, index: u32) -> Option<Target>
     ensures { result ≡ slice_get (record { state = state; weight = mass } ∷ []) index }
 {
-    if index == 0 {
-        Some(Target {
-            state,
-            weight: mass,
-        })
-    } else {
-        None
-    }
+    (index == 0).then_some(Target {
+        state,
+        weight: mass,
+    })
 }

@@ -1,9 +1,11 @@
 // What a judgement says.
-ghost use Rattle.std.specs.Prelude.{◌≡◌};
-ghost use Rattle.claims.specs.Verdicts.{verdict};
+ghost use Rattle.std.specs.Prelude.{◌≡◌, Some};
+ghost use Rattle.claims.specs.Verdicts.{verdict, word};
+
+use std::fmt;
 
 // Whether the formula of a claim holds of a system.
-#[derive(Clone, Copy, PartialEq, Debug)]
+#[derive(Clone, Copy, PartialEq, Eq, Debug)]
 pub enum Verdict {
     Yes,
     No,
@@ -14,5 +16,16 @@ impl Verdict {
         ensures { result ≡ verdict holds }
     {
         if holds { Verdict::Yes } else { Verdict::No }
+    }
+}
+
+impl fmt::Display for Verdict {
+    ghost output = { λ v. Some (word v) };
+
+    fn fmt<W: fmt::Write>(&self, f: &mut fmt::Formatter<W>) -> fmt::Result {
+        f.write_str(match self {
+            Verdict::Yes => "yes",
+            Verdict::No => "no",
+        })
     }
 }

@@ -1,46 +1,35 @@
-use Rattle.std.proofs.Common.{◌≡◌, length, get_or, refl, ap, ◌∙◌, arith}
-use Rattle.formulas.specs.Tables.{over}
-use Rattle.claims.specs.Verdicts.{bytes}
+use Rattle.std.proofs.Common.{◌*◌, ◌++◌, drop, ap, ap₂, ◌∙◌, arith}
 use Rattle.claims.specs.Boards.{truths_in}
-use Rattle.claims.proofs.Truthful.{row_at}
-use Rattle.claims.proofs.Pastes.{table_more, over-agrees}
+use Rattle.claims.proofs.Pastes.{table_more, over-agrees, front-agrees}
 use Rattle.claims.proofs.judge.fill_table.Goals as goal
 
-pub loop-i-init : goal.loop-i-init
-loop-i-init g c = (refl, refl)
-
-pub fill_node-requires : goal.fill_node-requires
-fill_node-requires g c =
+pub invariant_of-board : goal.invariant_of-board
+invariant_of-board g c =
     let M = g.S.System.meaning c.args.system.now in
     let T = truths_in M c.args.tables in
-    let i = c.loop-i.i in
-    let count = length c.args.tables.nodes.now in
-    let room = row_at M.states (length c.loop-i.truth) count i (omega (arith, c.requires.room, c.loop-i.auto.truth)) c.loop-i-test.true in
+    let i = c.loop-upto.upto in
+    let known = c.split_at_mut-known.result.0.now in
+    let p = i * c.states-states.result in
+    let far = ap (λ n. i * n) c.states-states.ensures in
     record {
-      board = record {
+      known = record {
         sits = c.requires.sits;
-        nodes = omega (arith, c.loop-i-test.true);
-        rows = omega (arith, room);
-        long = omega (arith, c.requires.long, c.loop-i.auto.row, c.loop-i-test.true);
-        agrees = over-agrees M T i c.args.truth.now c.loop-i.truth c.loop-i.invariant.0;
+        nodes = omega (arith, c.loop-upto-test.true);
+        states = c.states-states.ensures;
+        rows = omega (arith, far, c.split_at_mut-known.ensures.front_len);
+        agrees = front-agrees M T i p c.loop-upto.truth known far c.split_at_mut-known.ensures.front (over-agrees M T i c.args.truth.now c.loop-upto.truth c.loop-upto.invariant.truth);
       };
-      clear = λ k l. ap (λ r. get_or r k 0) c.loop-i.invariant.1 ∙ c.requires.clear k (omega (arith, c.loop-i-test.true));
-      node = c.loop-i-test.true;
-      room = room;
     }
 
-pub loop-i-preserved : goal.loop-i-preserved
-loop-i-preserved g c =
-    let M = g.S.System.meaning c.args.system.now in (
-      table_more (truths_in M c.args.tables) M.states c.loop-i.i _ c.args.truth.now c.loop-i.truth _ refl c.loop-i.invariant.0 c.fill_node.ensures.truth,
-      c.fill_node.ensures.row ∙ c.loop-i.invariant.1,
-    )
-
-pub returns : goal.returns
-returns g c =
+pub loop-upto-preserved : goal.loop-upto-preserved
+loop-upto-preserved g c =
     let M = g.S.System.meaning c.args.system.now in
-    let end : c.loop-i.i ≡ length c.args.tables.nodes.now = omega (arith, c.loop-i.auto.i-end, c.loop-i-test.false) in
+    let T = truths_in M c.args.tables in
+    let i = c.loop-upto.upto in
+    let n = c.states-states.result in
+    let split = c.split_at_mut-known.ensures in
     record {
-      truth = c.loop-i.invariant.0 ∙ ap (λ n. over (bytes (truths_in M c.args.tables) M.states n) c.args.truth.now) end;
-      row = c.loop-i.invariant.1;
+      truth = table_more T M.states i (i * n) n c.args.truth.now c.loop-upto.truth c.fill_node.new.bytes _ (ap (λ k. i * k) c.states-states.ensures) c.states-states.ensures c.loop-upto.invariant.truth c.fill_node.ensures.bytes
+          (ap₂ (λ a r. a ++ (c.fill_node.new.bytes ++ drop n r)) split.front split.back);
+      row = c.fill_node.ensures.row ∙ c.loop-upto.invariant.row;
     }

@@ -1,23 +1,23 @@
-use Rattle.std.proofs.Common.{◌*◌, Err, sym, ap, refl, ◌∙◌, ap₂, arith}
+use Rattle.std.proofs.Common.{◌*◌, sym, refl, ◌∙◌, ap₂, arith}
 use native.Mathlib.Nat.{one-le-mul}
-use Rattle.formulas.specs.Tables.{slots, contents}
+use Rattle.formulas.specs.Tables.{slots, contents, held}
 use Rattle.claims.proofs.Removing.{light, few, as_claimed, removes}
 use Rattle.claims.proofs.remove.answer.Goals as goal
 
-pub overflow_mul-removed : goal.overflow_mul-removed
-overflow_mul-removed g c =
+pub overflow_mul-mass : goal.overflow_mul-mass
+overflow_mul-mass g c =
     let R = g.S.System.meaning c.args.system.now in
     let s = contents c.args.tables in
-    let second = slots c.args.nodes.now c.args.terms.now c.args.alternatives.now in
-    let done = sym (as_claimed R c.args.claim s second _ _ _ _ c.fills.ensures c.root.ensures c.mass-mass.ensures c.shared-shared.ensures) ∙ sym c.in-Ok.ensures.value in
+    let second = held c.args.second.now in
+    let done = sym (as_claimed R c.args.claim s second _ _ _ _ c.standing-standing.ensures.fills c.standing-standing.ensures.root c.mass-mass.ensures c.shared-shared.ensures) ∙ sym c.in-Ok.ensures.value in
     omega (arith, ap₂ ◌*◌ c.mass-mass.ensures c.mass.ensures, light R c.args.claim s second c.in-Ok.left done)
 
 pub new-requires : goal.new-requires
 new-requires g c =
     let R = g.S.System.meaning c.args.system.now in
     let s = contents c.args.tables in
-    let second = slots c.args.nodes.now c.args.terms.now c.args.alternatives.now in
-    let done = sym (as_claimed R c.args.claim s second _ _ _ _ c.fills.ensures c.root.ensures c.mass-mass.ensures c.shared-shared.ensures) ∙ sym c.in-Ok.ensures.value in
+    let second = held c.args.second.now in
+    let done = sym (as_claimed R c.args.claim s second _ _ _ _ c.standing-standing.ensures.fills c.standing-standing.ensures.root c.mass-mass.ensures c.shared-shared.ensures) ∙ sym c.in-Ok.ensures.value in
     let product = ap₂ ◌*◌ c.mass-mass.ensures c.mass.ensures in
     record {
       few = few R c.args.claim s second c.in-Ok.left done;
@@ -27,23 +27,23 @@ new-requires g c =
       );
     }
 
-pub returns-in-Ok : goal.returns-in-Ok
-returns-in-Ok g c =
+pub returns-in-Ok-clause-outcome : goal.returns-in-Ok-clause-outcome
+returns-in-Ok-clause-outcome g c =
     let R = g.S.System.meaning c.args.system.now in
     let s = contents c.args.tables in
-    let second = slots c.args.nodes.now c.args.terms.now c.args.alternatives.now in
+    let second = held c.args.second.now in
     let last = slots c.divide.new.nodes c.divide.new.terms c.divide.new.alternatives in
-    removes R c.args.claim s second _ _ _ _ c.fills.ensures c.root.ensures c.mass-mass.ensures c.shared-shared.ensures
+    removes R c.args.claim s second _ _ _ _ c.standing-standing.ensures.fills c.standing-standing.ensures.root c.mass-mass.ensures c.shared-shared.ensures
     c.in-Ok.left c.new.result last c.in-Ok.ensures.value c.in-Ok.ensures.tables
     c.new.ensures.fills c.new.ensures.root (c.new.ensures.mass ∙ ap₂ ◌*◌ c.mass-mass.ensures c.mass.ensures) c.new.ensures.shared
 
-pub returns-in-Err : goal.returns-in-Err
-returns-in-Err g c =
+pub returns-in-Err-clause-outcome : goal.returns-in-Err-clause-outcome
+returns-in-Err-clause-outcome g c =
     let R = g.S.System.meaning c.args.system.now in
     let s = contents c.args.tables in
-    let second = slots c.args.nodes.now c.args.terms.now c.args.alternatives.now in
+    let second = held c.args.second.now in
     record {
-      refused = sym (as_claimed R c.args.claim s second _ _ _ _ c.fills.ensures c.root.ensures c.mass-mass.ensures c.shared-shared.ensures) ∙ sym c.in-Err.ensures.value;
+      refused = sym (as_claimed R c.args.claim s second _ _ _ _ c.standing-standing.ensures.fills c.standing-standing.ensures.root c.mass-mass.ensures c.shared-shared.ensures) ∙ sym c.in-Err.ensures.value;
       claim = refl;
       tables = c.in-Err.ensures.tables;
     }

@@ -1,27 +1,20 @@
-use Rattle.std.proofs.Common.{Err, sym, refl, ap, ◌∙◌, subst, ap₂}
-use Rattle.formulas.specs.Tables.{slots, formula_at}
+use Rattle.std.proofs.Common.{sym, subst, ap₂}
+use Rattle.formulas.specs.Tables.{slots, held, formula_at}
 use Rattle.simplification.specs.Laws.{Settles}
-use Rattle.simplification.specs.Tables.{done, desk}
-use Rattle.claims.proofs.Simplifying.{few-left, accepts, refuses}
+use Rattle.simplification.specs.Tables.{desk}
+use Rattle.claims.proofs.Simplifying.{few-left, accepts}
 use Rattle.claims.proofs.simplify.answer.Goals as goal
 
 pub take_up-requires : goal.take_up-requires
-take_up-requires c = few-left _ _ _ c.in-Ok.ensures.fewer c.fills.ensures c.args.claim.now.few
+take_up-requires c = few-left _ _ _ c.in_ok-new.ensures.fewer c.standing-standing.ensures.fills c.args.claim.now.few
 
-pub returns-in-Ok : goal.returns-in-Ok
-returns-in-Ok c =
-    let before = desk (slots c.args.nodes.now c.args.terms.now c.args.alternatives.now) c.args.map.now in
+pub returns-clause-outcome : goal.returns-clause-outcome
+returns-clause-outcome c =
+    let before = desk (held c.args.tables.now) c.args.map.now in
     let after = slots c.simplify_in_place.new.nodes c.simplify_in_place.new.terms c.simplify_in_place.new.alternatives in
-    record {
-      outcome = accepts c.args.claim.now before (desk after c.simplify_in_place.new.map) _ _ _ c.fills.ensures c.root.ensures c.mass-mass.ensures c.in-Ok.new _ c.in-Ok.ensures.outcome c.take_up.ensures.fills c.take_up.ensures.root c.take_up.ensures.mass c.take_up.ensures.shared;
-      settled = subst Settles (sym (ap₂ (λ f r. formula_at f r after) c.take_up.ensures.fills c.take_up.ensures.root)) c.in-Ok.ensures.settled;
-    }
+    accepts c.args.claim.now before (desk after c.simplify_in_place.new.map) _ _ _ c.standing-standing.ensures.fills c.standing-standing.ensures.root c.mass.ensures c.in_ok-new.new _ c.in_ok-new.ensures.outcome c.take_up.ensures.fills c.take_up.ensures.root c.take_up.ensures.mass c.take_up.ensures.shared
 
-pub returns-in-Err : goal.returns-in-Err
-returns-in-Err c =
-    let before = desk (slots c.args.nodes.now c.args.terms.now c.args.alternatives.now) c.args.map.now in
-    let after = desk (slots c.simplify_in_place.new.nodes c.simplify_in_place.new.terms c.simplify_in_place.new.alternatives) c.simplify_in_place.new.map in
-    record {
-      outcome = refuses c.args.claim.now before after _ _ _ c.fills.ensures c.root.ensures c.mass-mass.ensures _ _ c.in-Err.ensures.outcome refl;
-      settled = tt;
-    }
+pub returns-clause-settled : goal.returns-clause-settled
+returns-clause-settled c =
+    let after = slots c.simplify_in_place.new.nodes c.simplify_in_place.new.terms c.simplify_in_place.new.alternatives in
+    subst Settles (sym (ap₂ (λ f r. formula_at f r after) c.take_up.ensures.fills c.take_up.ensures.root)) c.in_ok-new.ensures.settled
