@@ -5,9 +5,9 @@ ghost use Rattle.formulas.specs.Tables.{stands_in, contents};
 ghost use Rattle.claims.specs.Claims.{Opened};
 
 use crate::case::{Case, MOST_ENTRIES, Store, remove_from};
-use crate::refused::{by_mount, by_number, by_read, print_refusal};
+use crate::refused::print_refusal;
 use crate::show::print_claim;
-use crate::stack::{Answer, Bench, MOST_PILED, judge_stack};
+use crate::stack::{Bench, MOST_PILED, judge_stack};
 use crate::words::{action_set, joined, misread, number, promise_text, split, target};
 use anyhow::anyhow;
 use claims::claim::Claim;
@@ -25,7 +25,7 @@ use systems::actions::ActionSet;
 use systems::any::AnySystem;
 use systems::component::Component;
 use systems::empty::Empty;
-use systems::fault::Fault;
+use systems::fault::{Fault, MountFault};
 use systems::lane::Lane;
 use systems::records::MoveRecord;
 use systems::system::{System, Target};
@@ -192,14 +192,13 @@ impl Session {
                 )?;
                 self.keep(name, AnySystem::Component(component))
             }
-            Err(fault) => match by_mount(&fault) {
-                Some(refused) => {
-                    let action = format!(in self.heap; "component {name}")?;
-                    print_refusal(rt, action.as_str(), refused)?;
-                    Ok(())
-                }
-                None => Err(AllocError.into()),
-            },
+            // want of memory ends the job
+            Err(MountFault::NoMemory) => Err(AllocError.into()),
+            Err(fault) => {
+                let action = format!(in self.heap; "component {name}")?;
+                print_refusal(rt, action.as_str(), fault.into())?;
+                Ok(())
+            }
         }
     }
 
@@ -219,7 +218,7 @@ impl Session {
             }
             Err(fault) => {
                 let action = format!(in self.heap; "lane {name}")?;
-                print_refusal(rt, action.as_str(), by_number(fault.number()))?;
+                print_refusal(rt, action.as_str(), fault.into())?;
                 Ok(())
             }
         }
@@ -238,7 +237,7 @@ impl Session {
         ) {
             Ok(draft) => self.open_draft(rt, draft, store),
             Err(fault) => {
-                print_refusal(rt, "promise", by_read(&fault))?;
+                print_refusal(rt, "promise", fault.into())?;
                 Ok(())
             }
         }
@@ -252,7 +251,7 @@ impl Session {
                 print_fills(rt, "promise", fills)?;
                 println!(rt; "")?;
             }
-            Err(refusal) => print_refusal(rt, "promise", by_number(refusal.number()))?,
+            Err(refusal) => print_refusal(rt, "promise", refusal.into())?,
         }
         Ok(())
     }
@@ -272,12 +271,19 @@ impl Session {
             println!(rt; "{written}: no claim")?;
             return Ok(());
         };
-        let removing = remove_from(self.heap, case, &system)?;
-        match removing.refused {
-            Some(refusal) => print_refusal(rt, written.as_str(), by_number(refusal.number()))?,
-            None => print_removed(rt, written.as_str(), &removing.case.claim)?,
-        }
-        self.case = Some(removing.case);
+        let case = match remove_from(self.heap, case, &system)? {
+            Ok((case, fills)) => {
+                let mass = case.claim.mass();
+                print_fills(rt, written.as_str(), fills)?;
+                println!(rt; ", mass {mass}")?;
+                case
+            }
+            Err((case, refusal)) => {
+                print_refusal(rt, written.as_str(), refusal.into())?;
+                case
+            }
+        };
+        self.case = Some(case);
         Ok(())
     }
 
@@ -291,7 +297,7 @@ impl Session {
                 print_fills(rt, "simplify", fills)?;
                 println!(rt; "")?;
             }
-            Err(refusal) => print_refusal(rt, "simplify", by_number(refusal.number()))?,
+            Err(refusal) => print_refusal(rt, "simplify", refusal.into())?,
         }
         Ok(())
     }
@@ -338,9 +344,9 @@ impl Session {
             tables: case.store.tables(),
         };
         match judge_stack(&bench, &mut stack, lowest)? {
-            Answer::Said(Verdict::Yes) => println!(rt; "{written}: yes")?,
-            Answer::Said(Verdict::No) => println!(rt; "{written}: no")?,
-            Answer::Refused(refused) => print_refusal(rt, written.as_str(), refused)?,
+            Ok(Verdict::Yes) => println!(rt; "{written}: yes")?,
+            Ok(Verdict::No) => println!(rt; "{written}: no")?,
+            Err(refused) => print_refusal(rt, written.as_str(), refused)?,
         }
         Ok(())
     }
@@ -371,13 +377,6 @@ fn print_fills(rt: &HostRuntime, action: &str, fills: Fills) -> io::Result<()> {
     let terms = fills.terms;
     let alternatives = fills.alternatives;
     print!(rt; "{action}: {nodes} nodes, {terms} terms, {alternatives} alternatives")
-}
-
-// Prints what a removal has left.
-fn print_removed(rt: &HostRuntime, action: &str, claim: &Claim) -> io::Result<()> {
-    let mass = claim.mass();
-    print_fills(rt, action, claim.fills())?;
-    println!(rt; ", mass {mass}")
 }
 
 // Adds a move and its targets to a component's tables.
