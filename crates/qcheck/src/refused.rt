@@ -5,7 +5,7 @@ ghost use Rattle.qcheck.specs.Refusals.{number, place, layer};
 
 use claims::fault::Refusal;
 use formulas::fault::{GrammarFault, Layer, ReadFault};
-use std::{fmt, io};
+use std::fmt;
 use systems::fault::{Fault, MountFault};
 
 // What the libraries refuse with.
@@ -84,12 +84,10 @@ impl Refused {
             _ => None,
         }
     }
-}
 
-// What it means.
-impl fmt::Display for Refused {
-    fn fmt<W: fmt::Write>(&self, f: &mut fmt::Formatter<W>) -> fmt::Result {
-        f.write_str(match self {
+    // What it means.
+    fn meaning(&self) -> &'static str {
+        match self {
             Refused::System(Fault::Number) => {
                 "a number is outside its range or names nothing of the wanted kind, or put is take"
             }
@@ -122,7 +120,7 @@ impl fmt::Display for Refused {
                 "a table is too short for what has to be written"
             }
             Refused::Claim(Refusal::NoFormula) => "the tables do not hold the formula",
-        })
+        }
     }
 }
 
@@ -134,18 +132,19 @@ fn layer_name(layer: Layer) -> &'static str {
     }
 }
 
-// Prints that an action was refused, and in a line of its own what that means.
-pub fn print_refusal(rt: &HostRuntime, action: &str, refused: Refused) -> io::Result<()> {
-    print!(rt; "{action}: refused")?;
-    if let Some(number) = refused.number() {
-        print!(rt; " {number}")?;
+// Its number, place and layer, and in a line of its own what it means.
+impl fmt::Display for Refused {
+    fn fmt<W: fmt::Write>(&self, f: &mut fmt::Formatter<W>) -> fmt::Result {
+        f.write_str("refused")?;
+        if let Some(number) = self.number() {
+            write!(f, " {number}")?;
+        }
+        if let Some(place) = self.place() {
+            write!(f, " at {place}")?;
+        }
+        if let Some(layer) = self.layer() {
+            write!(f, " ({})", layer_name(layer))?;
+        }
+        write!(f, "\n  {}", self.meaning())
     }
-    if let Some(place) = refused.place() {
-        print!(rt; " at {place}")?;
-    }
-    if let Some(layer) = refused.layer() {
-        let name = layer_name(layer);
-        print!(rt; " ({name})")?;
-    }
-    println!(rt; "\n  {refused}")
 }
