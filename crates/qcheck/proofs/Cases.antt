@@ -1,5 +1,5 @@
 -- Tables that were lent come back with what was left in them.
-use Rattle.std.proofs.Common.{◌≡◌, ℕ, true, List, length, is_some, IfOk, Ok, Err, vec_items, Result, Vec, sym, refl, ap, ◌∙◌, subst, ap₂, true≢false}
+use Rattle.std.proofs.Common.{◌≡◌, ℕ, true, List, length, is_err, IfOk, Ok, Err, vec_items, Result, Vec, sym, refl, ap, ◌∙◌, subst, ap₂, true≢false}
 use Rattle.std.specs.Vec.{with_items}
 use Rattle.std.proofs.lemmas.List.{with_items_is}
 use Rattle.formulas.specs.declared.node.Node.{Node}
@@ -10,8 +10,9 @@ use Rattle.claims.specs.declared.claim.Claim.{Claim}
 use Rattle.claims.specs.Books.{removing, Entry, entry, Stage, stage}
 use Rattle.claims.specs.Runs.{Step, remove, simplify, judge}
 use Rattle.qcheck.specs.declared.case.Case.{Case}
-use Rattle.qcheck.specs.declared.case.Removing.{Removing}
-use Rattle.qcheck.specs.Cases.{stage_of, Removal}
+use Rattle.formulas.specs.declared.node.Fills.{Fills}
+use Rattle.formulas.specs.declared.refusal.Refusal.{Refusal}
+use Rattle.qcheck.specs.Cases.{stage_of, left_by, Removal}
 
 pub back : {Z : Type 0} (c : Claim) (nodes : Vec Node Z) (terms : Vec Term Z) (alternatives : Vec ℕ Z) (ns : List Node) (ts : List Term) (alts : List ℕ)
     → length ns ≡ nodes.len → length ts ≡ terms.len → length alts ≡ alternatives.len
@@ -29,6 +30,5 @@ unmoved (simplify map map' s c (Err e) p) r = ap₂ stage (sym p.claim) (ap (λ 
 unmoved (judge S t truth row r sound same p) q = refl
 
 -- so a removal that is tried again is one step from where the first try began
-pub again : {E : Type 0} (R : Meaning) (before : Case) (first : Removing) (r : Result Removing E) → Removal R before first → is_some first.refused ≡ true → IfOk r (Removal R first.case) → IfOk r (Removal R before)
-again R before first (Ok x) p refused q = subst (λ g. Step g (entry (removing R) (is_some x.refused)) (stage_of x.case)) (sym (unmoved p refused)) q
-again R before first (Err e) p refused q = q
+pub again : {E : Type 0} (R : Meaning) (before back : Case) (why : Refusal) (r : Result (Result (Case × Fills) (Case × Refusal)) E) → Removal R before (Err (back, why)) → IfOk r (Removal R back) → IfOk r (Removal R before)
+again R before back why r p h = subst (λ g. IfOk r (λ x. Step g (entry (removing R) (is_err x)) (stage_of (left_by x)))) (sym (unmoved p refl)) h

@@ -1,5 +1,5 @@
 -- A claim with owned tables, and calls on it as steps of a run.
-use Rattle.std.specs.Prelude.{is_some, is_err, vec_items, Result}
+use Rattle.std.specs.Prelude.{Ok, Err, is_err, vec_items, Result}
 use Rattle.systems.specs.Meaning.{Meaning}
 use Rattle.formulas.specs.declared.node.Fills.{Fills}
 use Rattle.formulas.specs.Tables.{slots}
@@ -7,7 +7,6 @@ use Rattle.formulas.specs.declared.refusal.Refusal.{Refusal}
 use Rattle.claims.specs.Books.{removing, simplifying, entry, Stage, stage}
 use Rattle.claims.specs.Runs.{Step}
 use Rattle.qcheck.specs.declared.case.Case.{Case}
-use Rattle.qcheck.specs.declared.case.Removing.{Removing}
 
 -- where the claim of a case is
 abbrev pub stage_of : Case → Stage
@@ -17,6 +16,11 @@ stage_of c = stage c.claim (slots (vec_items c.store.nodes) (vec_items c.store.t
 abbrev pub Simplification : Case → Case → Result Fills Refusal → Type 0
 Simplification before after r = Step (stage_of before) (entry simplifying (is_err r)) (stage_of after)
 
--- so are those before and after the removal of R
-abbrev pub Removal : Meaning → Case → Removing → Type 0
-Removal R before r = Step (stage_of before) (entry (removing R) (is_some r.refused)) (stage_of r.case)
+-- the case that a removal leaves, or gives back
+abbrev pub left_by : Result (Case × Fills) (Case × Refusal) → Case
+left_by (Ok left) = left.0
+left_by (Err back) = back.0
+
+-- the cases before and after the removal of R are one step apart
+abbrev pub Removal : Meaning → Case → Result (Case × Fills) (Case × Refusal) → Type 0
+Removal R before r = Step (stage_of before) (entry (removing R) (is_err r)) (stage_of (left_by r))

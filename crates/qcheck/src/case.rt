@@ -32,13 +32,6 @@ pub struct Case {
     pub store: Store,
 }
 
-// What came of a removal: the case that is left, and why if the system was not removed.
-#[derive(Drop)]
-pub struct Removing {
-    pub case: Case,
-    pub refused: Option<Refusal>,
-}
-
 impl Store {
     // Blank tables of this length.
     pub fn blank(heap: Global, room: usize) -> Result<Store, AllocError> {
@@ -83,13 +76,16 @@ impl Case {
     }
 }
 
+// What came of a removal: what is left and its fills, or the case as it was and why.
+pub type Removed = Result<(Case, Fills), (Case, Refusal)>;
+
 // Removes a system by way of second tables of the given length.
 fn remove_into<S: System>(
     heap: Global,
     case: Case,
     system: &S,
     room: usize,
-) -> Result<Removing, AllocError>
+) -> Result<Removed, AllocError>
     ensures { IfOk result (Removal (S.System.meaning system.now) case) }
 {
     let mut second = Store::blank(heap, room)?;
@@ -102,33 +98,23 @@ fn remove_into<S: System>(
         second.terms.as_mut_slice(),
         second.alternatives.as_mut_slice(),
     ) {
-        Ok(left) => Ok(Removing {
-            case: Case {
-                claim: left.0,
+        Ok((claim, fills)) => Ok(Ok((
+            Case {
+                claim,
                 store: second,
             },
-            refused: None,
-        }),
-        Err(back) => Ok(Removing {
-            case: Case {
-                claim: back.0,
-                store,
-            },
-            refused: Some(back.1),
-        }),
+            fills,
+        ))),
+        Err((claim, why)) => Ok(Err((Case { claim, store }, why))),
     }
 }
 
 // Removes a system: first with few entries, and if they do not do, with as many as a formula may use.
-pub fn remove_from<S: System>(heap: Global, case: Case, system: &S) -> Result<Removing, AllocError>
+pub fn remove_from<S: System>(heap: Global, case: Case, system: &S) -> Result<Removed, AllocError>
     ensures { IfOk result (Removal (S.System.meaning system.now) case) }
 {
-    let first = remove_into(heap, case, system, FEW_ENTRIES)?;
-    match first.refused {
-        Some(why) => match why {
-            Refusal::Short => remove_into(heap, first.case, system, MOST_ENTRIES),
-            _ => Ok(first),
-        },
-        None => Ok(first),
+    match remove_into(heap, case, system, FEW_ENTRIES)? {
+        Err((case, Refusal::Short)) => remove_into(heap, case, system, MOST_ENTRIES),
+        removed => Ok(removed),
     }
 }

@@ -8,17 +8,16 @@ mod show;
 mod stack;
 mod words;
 
-use anyhow::anyhow;
+use anyhow::bail;
 use session::Session;
 use std::{env, fs};
 
 // Runs one job; what cannot be understood is told with its line.
 fn run_job(rt: &HostRuntime, path: &str, text: &str) -> anyhow::Result<()> {
     let mut session = Session::new(rt.alloc());
-    let mut number = 0usize;
-    for line in text.lines() {
-        number = number.saturating_add(1);
+    for (i, line) in text.lines().enumerate() {
         if let Err(fault) = session.run_line(rt, line) {
+            let number = i.saturating_add(1);
             eprintln!(rt; "{path}:{number}: {fault}")?;
             return Err(fault);
         }
@@ -27,22 +26,20 @@ fn run_job(rt: &HostRuntime, path: &str, text: &str) -> anyhow::Result<()> {
 }
 
 fn main(rt: HostRuntime) -> anyhow::Result<()> {
-    let mut given = false;
-    for path in env::args(&rt)?.skip(1) {
-        given = true;
-        let text = match fs::read_to_string(&rt, path.as_str()) {
-            Ok(text) => text,
+    let mut paths = env::args(&rt)?.skip(1).peekable();
+    if paths.peek().is_none() {
+        eprintln!(rt; "usage: qcheck FILE..")?;
+        bail!("no job is given");
+    }
+    for path in paths {
+        let path = path.as_str();
+        match fs::read_to_string(&rt, path) {
+            Ok(text) => run_job(&rt, path, text.as_str())?,
             Err(fault) => {
-                let name = path.as_str();
-                eprintln!(rt; "{name}: {fault}")?;
+                eprintln!(rt; "{path}: {fault}")?;
                 return Err(fault.into());
             }
-        };
-        run_job(&rt, path.as_str(), text.as_str())?;
-    }
-    if !given {
-        eprintln!(rt; "usage: qcheck FILE..")?;
-        return Err(anyhow!("no job is given"));
+        }
     }
     Ok(())
 }

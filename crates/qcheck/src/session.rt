@@ -5,39 +5,28 @@ ghost use Rattle.formulas.specs.Tables.{stands_in, contents};
 ghost use Rattle.claims.specs.Claims.{Opened};
 
 use crate::case::{Case, MOST_ENTRIES, Store, remove_from};
-use crate::refused::{by_mount, by_number, by_read, print_refusal};
-use crate::show::print_claim;
-use crate::stack::{Answer, Bench, MOST_PILED, judge_stack};
-use crate::words::{action_set, joined, misread, number, promise_text, split, target};
-use anyhow::anyhow;
+use crate::refused::Refused;
+use crate::show::{Filled, print_claim};
+use crate::stack::{Bench, MOST_PILED, judge_stack};
+use crate::words::{LineFault, action_set, number, promise_text, split, target};
 use claims::claim::Claim;
 use claims::fault::Refusal;
 use claims::opening::open;
 use claims::tables::Tables;
 use claims::verdict::Verdict;
 use formulas::draft::Draft;
-use formulas::node::Fills;
 use formulas::read::read;
 use std::alloc::{AllocError, Global};
-use std::io;
+use std::collections::BTreeMap;
 use std::rc::Rc;
 use systems::actions::ActionSet;
 use systems::any::AnySystem;
 use systems::component::Component;
 use systems::empty::Empty;
-use systems::fault::Fault;
+use systems::fault::{Fault, MountFault};
 use systems::lane::Lane;
 use systems::records::MoveRecord;
 use systems::system::{System, Target};
-
-// Beyond every limit of a component's tables.
-const LARGEST: usize = 1073741825;
-
-#[derive(Drop)]
-struct Named {
-    name: String,
-    system: Rc<AnySystem>,
-}
 
 // A component whose moves are still being read.
 #[derive(Drop)]
@@ -52,7 +41,7 @@ struct Started {
 pub struct Session {
     heap: Global,
     shared: ActionSet,
-    systems: Vec<Named>,
+    systems: BTreeMap<String, Rc<AnySystem>>,
     started: Option<Started>,
     case: Option<Case>,
 }
@@ -62,7 +51,7 @@ impl Session {
         Session {
             heap,
             shared: ActionSet::empty(),
-            systems: Vec::new(heap),
+            systems: BTreeMap::new(heap),
             started: None,
             case: None,
         }
@@ -88,16 +77,18 @@ impl Session {
     fn run_command(&mut self, rt: &HostRuntime, command: &[&str]) -> anyhow::Result<()> {
         match command {
             ["shared", actions @ ..] => {
-                self.shared = action_set(self.heap, actions)?;
+                self.shared = action_set(actions)?;
                 Ok(())
             }
             ["component", name, states] => self.start_component(name, states),
             ["lane", name, capacity, put, take, loss] => {
-                let capacity = number(self.heap, capacity)?;
-                let put = number(self.heap, put)?;
-                let take = number(self.heap, take)?;
-                let loss = number(self.heap, loss)?;
-                self.make_lane(rt, name, Lane::new(capacity, put, take, loss))
+                let lane = Lane::new(
+                    number(capacity)?,
+                    number(put)?,
+                    number(take)?,
+                    number(loss)?,
+                );
+                self.make_lane(rt, name, lane)
             }
             ["judge", stack @ ..] => self.judge_piled(rt, command, stack),
             ["show"] => self.show(rt),
@@ -107,55 +98,45 @@ impl Session {
                 self.find(name)?;
                 self.not_yet(rt, command)
             }
-            [word, ..] => Err(misread(
-                self.heap,
-                "unknown command or wrong number of words:",
-                word,
-            )),
+            [word, ..] => Err(LineFault::NotACommand(word).into()),
             [] => Ok(()),
         }
     }
 
     // A command on the claim that this version does not have.
     fn not_yet(&self, rt: &HostRuntime, command: &[&str]) -> anyhow::Result<()> {
-        let written = joined(self.heap, command)?;
+        let written = command.join(self.heap, " ")?;
         println!(rt; "{written}: not in this version")?;
         Ok(())
     }
 
     // The system of a name.
     fn find(&self, name: &str) -> anyhow::Result<Rc<AnySystem>> {
-        for named in self.systems.iter() {
-            if named.name.as_str() == name {
-                return Ok(named.system.clone()?);
-            }
-        }
-        Err(misread(self.heap, "unknown name", name))
+        let system = self.systems.get(name).ok_or(LineFault::UnknownName(name))?;
+        Ok(system.clone()?)
     }
 
     // Gives a system its name.
     fn keep(&mut self, name: &str, system: AnySystem) -> anyhow::Result<()> {
         let name = String::from_str(self.heap, name)?;
         let system = Rc::new(self.heap, system)?;
-        self.systems.push(Named { name, system })?;
+        self.systems.insert(name, system)?;
         Ok(())
     }
 
     // A name may be given once, and is no word of the judge line.
-    fn check_fresh(&self, name: &str) -> anyhow::Result<()> {
-        if name == "empty" || name == "over" || self.find(name).is_ok() {
-            return Err(misread(self.heap, "name is taken:", name));
+    fn check_fresh<'a>(&self, name: &'a str) -> Result<(), LineFault<'a>> {
+        if matches!(name, "empty" | "over") || self.systems.contains_key(name) {
+            return Err(LineFault::NameTaken(name));
         }
         Ok(())
     }
 
     fn start_component(&mut self, name: &str, states: &str) -> anyhow::Result<()> {
         self.check_fresh(name)?;
-        let name = String::from_str(self.heap, name)?;
-        let states = number(self.heap, states)?;
         self.started = Some(Started {
-            name,
-            states,
+            name: String::from_str(self.heap, name)?,
+            states: number(states)?,
             moves: Vec::new(self.heap),
             targets: Vec::new(self.heap),
         });
@@ -163,12 +144,10 @@ impl Session {
     }
 
     fn add_move(&mut self, state: &str, action: &str, targets: &[&str]) -> anyhow::Result<()> {
-        let state = number(self.heap, state)?;
-        let action = number(self.heap, action)?;
-        match &mut self.started {
-            Some(started) => add_record(started, self.heap, state, action, targets),
-            None => Err(anyhow!("a move stands behind its component's line")),
-        }
+        let state = number(state)?;
+        let action = number(action)?;
+        let started = self.started.as_mut().ok_or(LineFault::NoComponent)?;
+        started.add_move(state, action, targets)
     }
 
     // Mounts the component whose moves have been read, and prints what came of it.
@@ -192,14 +171,13 @@ impl Session {
                 )?;
                 self.keep(name, AnySystem::Component(component))
             }
-            Err(fault) => match by_mount(&fault) {
-                Some(refused) => {
-                    let action = format!(in self.heap; "component {name}")?;
-                    print_refusal(rt, action.as_str(), refused)?;
-                    Ok(())
-                }
-                None => Err(AllocError.into()),
-            },
+            // want of memory ends the job
+            Err(MountFault::NoMemory) => Err(AllocError.into()),
+            Err(fault) => {
+                let refused = Refused::from(fault);
+                println!(rt; "component {name}: {refused}")?;
+                Ok(())
+            }
         }
     }
 
@@ -218,8 +196,8 @@ impl Session {
                 self.keep(name, AnySystem::Lane(lane))
             }
             Err(fault) => {
-                let action = format!(in self.heap; "lane {name}")?;
-                print_refusal(rt, action.as_str(), by_number(fault.number()))?;
+                let refused = Refused::from(fault);
+                println!(rt; "lane {name}: {refused}")?;
                 Ok(())
             }
         }
@@ -230,29 +208,13 @@ impl Session {
         self.case = None;
         // each entry has a word of its own in the text
         let mut store = Store::blank(self.heap, text.len().min(MOST_ENTRIES))?;
-        match read(
-            text.as_bytes(),
-            store.nodes.as_mut_slice(),
-            store.terms.as_mut_slice(),
-            store.alternatives.as_mut_slice(),
-        ) {
-            Ok(draft) => self.open_draft(rt, draft, store),
-            Err(fault) => {
-                print_refusal(rt, "promise", by_read(&fault))?;
-                Ok(())
-            }
-        }
-    }
-
-    fn open_draft(&mut self, rt: &HostRuntime, draft: Draft, store: Store) -> anyhow::Result<()> {
-        let fills = draft.fills();
-        match open_on(draft, store.tables(), self.shared) {
+        match read_claim(text, &mut store, self.shared) {
             Ok(claim) => {
+                let filled = Filled(claim.fills());
                 self.case = Some(Case { claim, store });
-                print_fills(rt, "promise", fills)?;
-                println!(rt; "")?;
+                println!(rt; "promise: {filled}")?;
             }
-            Err(refusal) => print_refusal(rt, "promise", by_number(refusal.number()))?,
+            Err(refused) => println!(rt; "promise: {refused}")?,
         }
         Ok(())
     }
@@ -266,18 +228,25 @@ impl Session {
     }
 
     fn remove(&mut self, rt: &HostRuntime, name: &str) -> anyhow::Result<()> {
-        let written = format!(in self.heap; "remove {name}")?;
         let system = self.system_of(name, self.shared_actions())?;
         let Some(case) = self.case.take() else {
-            println!(rt; "{written}: no claim")?;
+            println!(rt; "remove {name}: no claim")?;
             return Ok(());
         };
-        let removing = remove_from(self.heap, case, &system)?;
-        match removing.refused {
-            Some(refusal) => print_refusal(rt, written.as_str(), by_number(refusal.number()))?,
-            None => print_removed(rt, written.as_str(), &removing.case.claim)?,
-        }
-        self.case = Some(removing.case);
+        let case = match remove_from(self.heap, case, &system)? {
+            Ok((case, fills)) => {
+                let filled = Filled(fills);
+                let mass = case.claim.mass();
+                println!(rt; "remove {name}: {filled}, mass {mass}")?;
+                case
+            }
+            Err((case, refusal)) => {
+                let refused = Refused::from(refusal);
+                println!(rt; "remove {name}: {refused}")?;
+                case
+            }
+        };
+        self.case = Some(case);
         Ok(())
     }
 
@@ -288,10 +257,13 @@ impl Session {
         };
         match case.simplify(self.heap)? {
             Ok(fills) => {
-                print_fills(rt, "simplify", fills)?;
-                println!(rt; "")?;
+                let filled = Filled(fills);
+                println!(rt; "simplify: {filled}")?;
             }
-            Err(refusal) => print_refusal(rt, "simplify", by_number(refusal.number()))?,
+            Err(refusal) => {
+                let refused = Refused::from(refusal);
+                println!(rt; "simplify: {refused}")?;
+            }
         }
         Ok(())
     }
@@ -299,15 +271,18 @@ impl Session {
     // The systems of a judge line, the first on top; the words between them are `over`.
     fn stack_of(&self, words: &[&str], shared: ActionSet) -> anyhow::Result<Vec<Rc<AnySystem>>> {
         let mut stack = Vec::new(self.heap);
-        for (i, word) in words.iter().enumerate() {
-            if i % 2 == 0 {
-                stack.push(self.system_of(word, shared)?)?;
-            } else if *word != "over" {
-                return Err(misread(self.heap, "in place of over:", word));
+        for pair in words.chunks(2) {
+            if let [name, ..] = pair {
+                stack.push(self.system_of(name, shared)?)?;
+            }
+            if let [_, word] = pair
+                && *word != "over"
+            {
+                return Err(LineFault::NotOver(word).into());
             }
         }
         if words.len() % 2 == 0 || stack.len() > MOST_PILED {
-            return Err(anyhow!("judge takes one to six systems, parted by over"));
+            return Err(LineFault::NotAStack.into());
         }
         Ok(stack)
     }
@@ -326,7 +301,7 @@ impl Session {
         command: &[&str],
         words: &[&str],
     ) -> anyhow::Result<()> {
-        let written = joined(self.heap, command)?;
+        let written = command.join(self.heap, " ")?;
         let mut stack = self.stack_of(words, self.shared_actions())?;
         let (Some(case), Some(lowest)) = (&self.case, stack.pop()) else {
             println!(rt; "{written}: no claim")?;
@@ -338,20 +313,49 @@ impl Session {
             tables: case.store.tables(),
         };
         match judge_stack(&bench, &mut stack, lowest)? {
-            Answer::Said(Verdict::Yes) => println!(rt; "{written}: yes")?,
-            Answer::Said(Verdict::No) => println!(rt; "{written}: no")?,
-            Answer::Refused(refused) => print_refusal(rt, written.as_str(), refused)?,
+            Ok(Verdict::Yes) => println!(rt; "{written}: yes")?,
+            Ok(Verdict::No) => println!(rt; "{written}: no")?,
+            Err(refused) => println!(rt; "{written}: {refused}")?,
         }
         Ok(())
     }
 
     fn show(&self, rt: &HostRuntime) -> anyhow::Result<()> {
         match &self.case {
-            Some(case) => print_claim(rt, &case.claim, &case.store.tables())?,
+            Some(case) => print_claim(rt, &case.claim, case.store.tables())?,
             None => println!(rt; "show: no claim")?,
         }
         Ok(())
     }
+}
+
+impl Started {
+    fn add_move(&mut self, state: u32, action: u32, targets: &[&str]) -> anyhow::Result<()> {
+        // what does not fit is beyond every limit of a component's tables
+        let first = u32::try_from(self.targets.len()).unwrap_or(u32::MAX);
+        let count = u32::try_from(targets.len()).unwrap_or(u32::MAX);
+        for word in targets {
+            self.targets.push(target(word)?)?;
+        }
+        self.moves.push(MoveRecord {
+            state,
+            action,
+            first,
+            count,
+        })?;
+        Ok(())
+    }
+}
+
+// Reads a promise into the tables and opens it.
+fn read_claim(text: &str, store: &mut Store, shared: ActionSet) -> Result<Claim, Refused> {
+    let draft = read(
+        text.as_bytes(),
+        store.nodes.as_mut_slice(),
+        store.terms.as_mut_slice(),
+        store.alternatives.as_mut_slice(),
+    )?;
+    Ok(open_on(draft, store.tables(), shared)?)
 }
 
 // Opens a draft; a refused one is let go.
@@ -359,50 +363,5 @@ fn open_on(draft: Draft, tables: Tables, shared: ActionSet) -> Result<Claim, Ref
     ensures accepted { is_ok result ≡ stands_in draft.fills draft.root 1 (contents tables.entry) }
     ensures outcome { elim result [ Ok c ↦ Opened draft shared c | Err e ↦ e ≡ NoFormula ] }
 {
-    match open(draft, tables, shared) {
-        Ok(claim) => Ok(claim),
-        Err(back) => Err(back.1),
-    }
-}
-
-// Prints how much of each table an action has filled.
-fn print_fills(rt: &HostRuntime, action: &str, fills: Fills) -> io::Result<()> {
-    let nodes = fills.nodes;
-    let terms = fills.terms;
-    let alternatives = fills.alternatives;
-    print!(rt; "{action}: {nodes} nodes, {terms} terms, {alternatives} alternatives")
-}
-
-// Prints what a removal has left.
-fn print_removed(rt: &HostRuntime, action: &str, claim: &Claim) -> io::Result<()> {
-    let mass = claim.mass();
-    print_fills(rt, action, claim.fills())?;
-    println!(rt; ", mass {mass}")
-}
-
-// Adds a move and its targets to a component's tables.
-fn add_record(
-    started: &mut Started,
-    heap: Global,
-    state: u32,
-    action: u32,
-    targets: &[&str],
-) -> anyhow::Result<()> {
-    let first = started.targets.len();
-    for word in targets {
-        let (state, weight) = target(heap, word)?;
-        started.targets.push(Target {
-            state,
-            weight: weight as u64,
-        })?;
-    }
-    let first = first.min(LARGEST) as u32;
-    let count = targets.len().min(LARGEST) as u32;
-    started.moves.push(MoveRecord {
-        state,
-        action,
-        first,
-        count,
-    })?;
-    Ok(())
+    open(draft, tables, shared).map_err(|(_, refusal)| refusal)
 }

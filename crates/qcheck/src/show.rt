@@ -1,85 +1,102 @@
-// How the tables of a claim are printed.
+// How fills and the tables of a claim are printed.
 use claims::claim::Claim;
 use claims::tables::Tables;
-use formulas::node::{DistNode, Node, Run, StateNode};
-use std::io;
+use formulas::node::{DistNode, Fills, Node, Run, StateNode, Term};
+use std::{fmt, io};
 
-// The alternatives of a run, or a dash for none.
-fn print_alternatives(rt: &HostRuntime, tables: &Tables, run: Run) -> io::Result<()> {
-    if run.count == 0 {
-        return print!(rt; " -");
+// How much of each table is filled.
+#[derive(Clone, Copy)]
+pub struct Filled(pub Fills);
+
+impl fmt::Display for Filled {
+    fn fmt<W: fmt::Write>(&self, f: &mut fmt::Formatter<W>) -> fmt::Result {
+        let Fills {
+            nodes,
+            terms,
+            alternatives,
+        } = self.0;
+        write!(
+            f,
+            "{nodes} nodes, {terms} terms, {alternatives} alternatives"
+        )
     }
-    for d in tables
-        .alternatives
-        .iter()
-        .skip(run.first as usize)
-        .take(run.count as usize)
-    {
-        print!(rt; " {d}")?;
-    }
-    Ok(())
 }
 
-// The terms of a run, coefficient times node, or a dash for none.
-fn print_terms(rt: &HostRuntime, tables: &Tables, run: Run) -> io::Result<()> {
-    if run.count == 0 {
-        return print!(rt; " -");
-    }
-    for t in tables
-        .terms
-        .iter()
-        .skip(run.first as usize)
-        .take(run.count as usize)
-    {
-        let coefficient = t.coefficient;
-        let node = t.node;
-        print!(rt; " {coefficient}*{node}")?;
-    }
-    Ok(())
+// An entry of a run.
+trait Entry {
+    fn put<W: fmt::Write>(&self, f: &mut fmt::Formatter<W>) -> fmt::Result;
 }
 
-fn print_state(rt: &HostRuntime, tables: &Tables, node: StateNode) -> io::Result<()> {
-    match node {
-        StateNode::Yes => print!(rt; "state yes"),
-        StateNode::No => print!(rt; "state no"),
-        StateNode::And(i, j) => print!(rt; "state and {i} {j}"),
-        StateNode::Not(i) => print!(rt; "state not {i}"),
-        StateNode::Step {
-            action,
-            moves,
-            heres,
-        } => {
-            print!(rt; "state step {action} moves")?;
-            print_alternatives(rt, tables, moves)?;
-            print!(rt; " heres")?;
-            print_alternatives(rt, tables, heres)
+impl Entry for u32 {
+    fn put<W: fmt::Write>(&self, f: &mut fmt::Formatter<W>) -> fmt::Result {
+        write!(f, " {self}")
+    }
+}
+
+impl Entry for Term {
+    fn put<W: fmt::Write>(&self, f: &mut fmt::Formatter<W>) -> fmt::Result {
+        write!(f, " {}*{}", self.coefficient, self.node)
+    }
+}
+
+// The entries of a run, or a dash for none.
+#[derive(Drop)]
+struct Entries<'a, T>(&'a [T], Run);
+
+impl<T: Entry> fmt::Display for Entries<'_, T> {
+    fn fmt<W: fmt::Write>(&self, f: &mut fmt::Formatter<W>) -> fmt::Result {
+        let Run { first, count } = self.1;
+        if count == 0 {
+            return f.write_str(" -");
+        }
+        for entry in self.0.iter().skip(first as usize).take(count as usize) {
+            entry.put(f)?;
+        }
+        Ok(())
+    }
+}
+
+// A node of these tables.
+#[derive(Drop)]
+struct Shown<'a>(Node, Tables<'a>);
+
+impl fmt::Display for Shown<'_> {
+    fn fmt<W: fmt::Write>(&self, f: &mut fmt::Formatter<W>) -> fmt::Result {
+        let Shown(node, tables) = self;
+        match *node {
+            Node::State(StateNode::Yes) => f.write_str("state yes"),
+            Node::State(StateNode::No) => f.write_str("state no"),
+            Node::State(StateNode::And(i, j)) => write!(f, "state and {i} {j}"),
+            Node::State(StateNode::Not(i)) => write!(f, "state not {i}"),
+            Node::State(
+                StateNode::Step {
+                    action,
+                    moves,
+                    heres,
+                },
+            ) => {
+                let moves = Entries(tables.alternatives, moves);
+                let heres = Entries(tables.alternatives, heres);
+                write!(f, "state step {action} moves{moves} heres{heres}")
+            }
+            Node::Dist(DistNode::Yes) => f.write_str("dist yes"),
+            Node::Dist(DistNode::No) => f.write_str("dist no"),
+            Node::Dist(DistNode::And(i, j)) => write!(f, "dist and {i} {j}"),
+            Node::Dist(DistNode::Not(i)) => write!(f, "dist not {i}"),
+            Node::Dist(DistNode::Sum { threshold, terms }) => {
+                let terms = Entries(tables.terms, terms);
+                write!(f, "dist sum {threshold} terms{terms}")
+            }
         }
     }
 }
 
-fn print_dist(rt: &HostRuntime, tables: &Tables, node: DistNode) -> io::Result<()> {
-    match node {
-        DistNode::Yes => print!(rt; "dist yes"),
-        DistNode::No => print!(rt; "dist no"),
-        DistNode::And(i, j) => print!(rt; "dist and {i} {j}"),
-        DistNode::Not(i) => print!(rt; "dist not {i}"),
-        DistNode::Sum { threshold, terms } => {
-            print!(rt; "dist sum {threshold} terms")?;
-            print_terms(rt, tables, terms)
-        }
-    }
-}
-
-// The claim's nodes, one a line, then its root and the mass removed.
-pub fn print_claim(rt: &HostRuntime, claim: &Claim, tables: &Tables) -> io::Result<()> {
+// Prints the claim's nodes, one a line, then its root and the mass removed.
+pub fn print_claim(rt: &HostRuntime, claim: &Claim, tables: Tables) -> io::Result<()> {
     let count = claim.fills().nodes as usize;
     for (i, node) in tables.nodes.iter().take(count).enumerate() {
-        print!(rt; "{i}: ")?;
-        match *node {
-            Node::State(x) => print_state(rt, tables, x)?,
-            Node::Dist(x) => print_dist(rt, tables, x)?,
-        }
-        println!(rt; "")?;
+        let shown = Shown(*node, tables);
+        println!(rt; "{i}: {shown}")?;
     }
     let root = claim.root();
     let mass = claim.mass();

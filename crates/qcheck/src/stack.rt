@@ -1,16 +1,18 @@
 // Judging a claim on systems piled over one another.
-ghost use Rattle.std.specs.Prelude.{◌≡◌, ◌≤◌, length, IfOk};
+ghost use Rattle.std.specs.Prelude.{◌≡◌, ℕ, ◌+◌, ◌≤◌, length, IfOk};
 ghost use Rattle.systems.specs.Any.{any_meaning};
 ghost use Rattle.qcheck.specs.Answers.{answer_on, answer_over, answer_to, meanings, Told, ToldOver};
 
-use crate::refused::{Refused, by_number};
+use crate::refused::Refused;
 use claims::claim::Claim;
 use claims::judge::judge;
 use claims::tables::Tables;
 use claims::verdict::Verdict;
 use std::alloc::{AllocError, Global};
+use std::marker::PhantomData;
 use std::rc::Rc;
 use systems::any::AnySystem;
+use systems::fault::Fault;
 use systems::pile::Pile;
 use systems::system::System;
 
@@ -28,11 +30,8 @@ pub struct Bench<'a> {
     pub tables: Tables<'a>,
 }
 
-#[derive(Drop)]
-pub enum Answer {
-    Said(Verdict),
-    Refused(Refused),
-}
+// A verdict, or why there is none.
+pub type Answer = Result<Verdict, Refused>;
 
 // Judges on one system, with tables of its own.
 fn judge_one<S: System>(bench: &Bench, system: &S) -> Result<Answer, AllocError>
@@ -43,100 +42,72 @@ fn judge_one<S: System>(bench: &Bench, system: &S) -> Result<Answer, AllocError>
     let need = nodes as u64 * system.states() as u64;
     let mut truth = vec![in bench.heap; 0u8; need.min(LONGEST_TABLE) as usize]?;
     let mut row = vec![in bench.heap; 0u8; nodes as usize]?;
-    match judge(
+    let judged = judge(
         bench.claim,
         bench.tables,
         system,
         truth.as_mut_slice(),
         row.as_mut_slice(),
-    ) {
-        Ok(verdict) => Ok(Answer::Said(verdict)),
-        Err(fault) => Ok(Answer::Refused(by_number(fault.number()))),
-    }
+    );
+    Ok(judged.map_err(Refused::from))
 }
 
-// Judges on what is left of the stack over a system, with `$next` where one more is piled.
-macro_rules! judge_piled {
-    ($bench:expr, $stack:expr, $lower:expr, $next:path) => {
-        match $stack.pop() {
-            None => judge_one($bench, &$lower),
-            Some(upper) => match Pile::new(upper, $lower, $bench.claim.shared()) {
-                Ok(pile) => $next($bench, $stack, pile),
-                Err((_, _, fault)) => Ok(Answer::Refused(by_number(fault.number()))),
-            },
+// How many systems may be piled over one. A function may not call itself at a larger type, so each
+// system piled takes one off this type.
+trait Room {
+    ghost room: { ℕ };
+
+    // Judges on what is left of the stack over a system.
+    fn judge_over<S: System + Drop>(
+        bench: &Bench,
+        stack: &mut Vec<Rc<AnySystem>>,
+        system: S,
+    ) -> Result<Answer, AllocError>
+        ensures told { IfOk result (ToldOver stack.old.items (S.System.meaning system) bench.now.claim.now bench.now.tables) }
+        ensures answer { length stack.old.items ≤ room → IfOk result (λ a. a ≡ answer_over (meanings stack.old.items) (S.System.meaning system) bench.now.claim.now bench.now.tables) };
+}
+
+// Room for no more.
+struct Full;
+
+// Room for one more.
+struct More<R: Room>(PhantomData<R>);
+
+impl Room for Full {
+    ghost room = { 0 };
+
+    fn judge_over<S: System + Drop>(
+        bench: &Bench,
+        stack: &mut Vec<Rc<AnySystem>>,
+        system: S,
+    ) -> Result<Answer, AllocError> {
+        if stack.is_empty() {
+            judge_one(bench, &system)
+        } else {
+            Ok(Err(Refused::System(Fault::Size)))
         }
-    };
-}
-
-// Judges on six systems; a pile of more is refused.
-fn judge_six<S: System + Drop>(
-    bench: &Bench,
-    stack: &mut Vec<Rc<AnySystem>>,
-    system: S,
-) -> Result<Answer, AllocError>
-    ensures told { IfOk result (ToldOver stack.old.items (S.System.meaning system) bench.now.claim.now bench.now.tables) }
-    ensures answer { length stack.old.items ≤ 0 → IfOk result (λ a. a ≡ answer_over (meanings stack.old.items) (S.System.meaning system) bench.now.claim.now bench.now.tables) }
-{
-    match stack.pop() {
-        None => judge_one(bench, &system),
-        Some(_) => Ok(Answer::Refused(by_number(9))),
     }
 }
 
-fn judge_five<S: System + Drop>(
-    bench: &Bench,
-    stack: &mut Vec<Rc<AnySystem>>,
-    system: S,
-) -> Result<Answer, AllocError>
-    ensures told { IfOk result (ToldOver stack.old.items (S.System.meaning system) bench.now.claim.now bench.now.tables) }
-    ensures answer { length stack.old.items ≤ 1 → IfOk result (λ a. a ≡ answer_over (meanings stack.old.items) (S.System.meaning system) bench.now.claim.now bench.now.tables) }
-{
-    judge_piled!(bench, stack, system, judge_six)
+impl<R: Room> Room for More<R> {
+    ghost room = { R.Room.room + 1 };
+
+    fn judge_over<S: System + Drop>(
+        bench: &Bench,
+        stack: &mut Vec<Rc<AnySystem>>,
+        system: S,
+    ) -> Result<Answer, AllocError> {
+        let Some(upper) = stack.pop() else {
+            return judge_one(bench, &system);
+        };
+        match Pile::new(upper, system, bench.claim.shared()) {
+            Ok(pile) => R::judge_over(bench, stack, pile),
+            Err((_, _, fault)) => Ok(Err(Refused::System(fault))),
+        }
+    }
 }
 
-fn judge_four<S: System + Drop>(
-    bench: &Bench,
-    stack: &mut Vec<Rc<AnySystem>>,
-    system: S,
-) -> Result<Answer, AllocError>
-    ensures told { IfOk result (ToldOver stack.old.items (S.System.meaning system) bench.now.claim.now bench.now.tables) }
-    ensures answer { length stack.old.items ≤ 2 → IfOk result (λ a. a ≡ answer_over (meanings stack.old.items) (S.System.meaning system) bench.now.claim.now bench.now.tables) }
-{
-    judge_piled!(bench, stack, system, judge_five)
-}
-
-fn judge_three<S: System + Drop>(
-    bench: &Bench,
-    stack: &mut Vec<Rc<AnySystem>>,
-    system: S,
-) -> Result<Answer, AllocError>
-    ensures told { IfOk result (ToldOver stack.old.items (S.System.meaning system) bench.now.claim.now bench.now.tables) }
-    ensures answer { length stack.old.items ≤ 3 → IfOk result (λ a. a ≡ answer_over (meanings stack.old.items) (S.System.meaning system) bench.now.claim.now bench.now.tables) }
-{
-    judge_piled!(bench, stack, system, judge_four)
-}
-
-fn judge_two<S: System + Drop>(
-    bench: &Bench,
-    stack: &mut Vec<Rc<AnySystem>>,
-    system: S,
-) -> Result<Answer, AllocError>
-    ensures told { IfOk result (ToldOver stack.old.items (S.System.meaning system) bench.now.claim.now bench.now.tables) }
-    ensures answer { length stack.old.items ≤ 4 → IfOk result (λ a. a ≡ answer_over (meanings stack.old.items) (S.System.meaning system) bench.now.claim.now bench.now.tables) }
-{
-    judge_piled!(bench, stack, system, judge_three)
-}
-
-fn judge_over(
-    bench: &Bench,
-    stack: &mut Vec<Rc<AnySystem>>,
-    lowest: Rc<AnySystem>,
-) -> Result<Answer, AllocError>
-    ensures told { IfOk result (ToldOver stack.old.items (any_meaning lowest.value) bench.now.claim.now bench.now.tables) }
-    ensures answer { length stack.old.items ≤ 5 → IfOk result (λ a. a ≡ answer_over (meanings stack.old.items) (any_meaning lowest.value) bench.now.claim.now bench.now.tables) }
-{
-    judge_piled!(bench, stack, lowest, judge_two)
-}
+type FiveMore = More<More<More<More<More<Full>>>>>;
 
 // Judges on the systems of the stack over the lowest one, the first on top.
 pub fn judge_stack(
@@ -148,7 +119,7 @@ pub fn judge_stack(
     ensures answer { IfOk result (λ a. a ≡ answer_to (meanings stack.old.items) (any_meaning lowest.value) bench.now.claim.now bench.now.tables) }
 {
     if stack.len() >= MOST_PILED {
-        return Ok(Answer::Refused(by_number(9)));
+        return Ok(Err(Refused::System(Fault::Size)));
     }
-    judge_over(bench, stack, lowest)
+    FiveMore::judge_over(bench, stack, lowest)
 }

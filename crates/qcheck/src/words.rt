@@ -1,81 +1,70 @@
 // The words and numbers of a job's lines.
-ghost use Rattle.std.specs.Prelude.{◌≡◌, IfOk, Some};
+ghost use Rattle.std.specs.Prelude.{◌≡◌, Ok, MatchOption, IsErr};
 ghost use Rattle.formulas.specs.Tokens.{numeral_of};
 
-use anyhow::anyhow;
 use formulas::tokens::numeral;
 use std::alloc::{AllocError, Global};
 use systems::actions::ActionSet;
+use systems::system::Target;
+use thiserror::Error;
+
+// Why a line of a job cannot be understood.
+#[derive(Debug, Drop, Error)]
+pub enum LineFault<'a> {
+    #[error("unknown command or wrong number of words: '{0}'")]
+    NotACommand(&'a str),
+    #[error("not a number: '{0}'")]
+    NotANumber(&'a str),
+    #[error("not a target: '{0}'")]
+    NotATarget(&'a str),
+    #[error("not an action: '{0}'")]
+    NotAnAction(&'a str),
+    #[error("unknown name '{0}'")]
+    UnknownName(&'a str),
+    #[error("name is taken: '{0}'")]
+    NameTaken(&'a str),
+    #[error("in place of over: '{0}'")]
+    NotOver(&'a str),
+    #[error("judge takes one to six systems, parted by over")]
+    NotAStack,
+    #[error("a move stands behind its component's line")]
+    NoComponent,
+}
 
 // The words of a line in front of its comment.
 pub fn split<'a>(heap: Global, line: &'a str) -> Result<Vec<&'a str>, AllocError> {
-    let code = match line.split_once(';') {
-        Some((code, _)) => code,
-        None => line,
-    };
-    let mut words = Vec::new(heap);
-    for word in code.split_whitespace() {
-        words.push(word)?;
-    }
-    Ok(words)
-}
-
-// The words with one space between them.
-pub fn joined(heap: Global, words: &[&str]) -> Result<String, AllocError> {
-    let mut text = String::new(heap);
-    for word in words {
-        if !text.is_empty() {
-            text.push_str(" ")?;
-        }
-        text.push_str(word)?;
-    }
-    Ok(text)
+    let (code, _) = line.split_once(';').unwrap_or((line, ""));
+    code.split_whitespace().collect(heap)
 }
 
 // The text of a promise: what follows that word and its blanks.
 pub fn promise_text(line: &str) -> Option<&str> {
     let rest = line.trim_start().strip_prefix("promise")?;
-    if rest.is_empty() || rest.starts_with(' ') || rest.starts_with('\t') {
-        Some(rest.trim_start())
-    } else {
-        None
-    }
-}
-
-// A message about a word that cannot be understood.
-pub fn misread(heap: Global, what: &str, word: &str) -> anyhow::Error {
-    match format!(in heap; "{what} '{word}'") {
-        Ok(text) => anyhow!(text),
-        Err(fault) => fault.into(),
-    }
+    let ends = rest.is_empty() || rest.starts_with(' ') || rest.starts_with('\t');
+    ends.then_some(rest.trim_start())
 }
 
 // A numeral; one above 2^30 stands for any number beyond every limit.
-pub fn number(heap: Global, word: &str) -> anyhow::Result<u32>
-    ensures { IfOk result (λ n. numeral_of word.now ≡ Some n) }
+pub fn number(word: &str) -> Result<u32, LineFault<'_>>
+    ensures { MatchOption (numeral_of word.now) (IsErr result) (λ n. result ≡ Ok n) }
 {
-    match numeral(word.as_bytes()) {
-        Some(n) => Ok(n),
-        None => Err(misread(heap, "not a number:", word)),
-    }
+    numeral(word.as_bytes()).ok_or(LineFault::NotANumber(word))
 }
 
 // A target of a move, as `state:weight`.
-pub fn target(heap: Global, word: &str) -> anyhow::Result<(u32, u32)> {
-    match word.split_once(':') {
-        Some((state, weight)) => Ok((number(heap, state)?, number(heap, weight)?)),
-        None => Err(misread(heap, "not a target:", word)),
-    }
+pub fn target(word: &str) -> Result<Target, LineFault<'_>> {
+    let (state, weight) = word.split_once(':').ok_or(LineFault::NotATarget(word))?;
+    Ok(Target {
+        state: number(state)?,
+        weight: number(weight)? as u64,
+    })
 }
 
 // The set of the actions that are named.
-pub fn action_set(heap: Global, words: &[&str]) -> anyhow::Result<ActionSet> {
+pub fn action_set<'a>(words: &[&'a str]) -> Result<ActionSet, LineFault<'a>> {
     let mut set = ActionSet::empty();
     for word in words {
-        match set.with(number(heap, word)?) {
-            Some(more) => set = more,
-            None => return Err(misread(heap, "not an action:", word)),
-        }
+        set = set.with(number(word)?).ok_or(LineFault::NotAnAction(word))?;
     }
     Ok(set)
 }

@@ -1,7 +1,10 @@
-use Rattle.std.proofs.Common.{is_some, ap}
+use Rattle.std.proofs.Common.{subst}
+use Rattle.formulas.specs.declared.refusal.Refusal.TheVariants.{Short}
+use Rattle.qcheck.specs.Cases.{Removal}
 use Rattle.qcheck.proofs.Cases.{again}
 use Rattle.qcheck.proofs.case.remove_from.Goals as goal
 
-pub returns-in-Short : goal.returns-in-Short
-returns-in-Short g c =
-    again (g.S.System.meaning c.args.system.now) c.args.case c.in_ok-first.first c.remove_into-in-Short.result c.in_ok-first.ensures (ap is_some c.in-Some.is) c.remove_into-in-Short.ensures
+pub returns-in-Err-default-Short : goal.returns-in-Err-default-Short
+returns-in-Err-default-Short g c =
+    let R = g.S.System.meaning c.args.system.now in
+    again R c.args.case c.in-Err-default-Short.case Short _ (subst (Removal R c.args.case) c.in-Err-default-Short.is c.in_ok-removed.ensures) c.remove_into-in-Err-default-Short.ensures

@@ -16,9 +16,9 @@ returns-in-Ok g c =
     let after = slots left.nodes left.terms left.alternatives in
     let To : Stage → Type 0 = λ h. Step (stage_of c.args.case) (entry (removing R) false) h in
     subst To
-    (back c.in-Ok.left.0 second.nodes second.terms second.alternatives left.nodes left.terms left.alternatives
+    (back c.in-Ok.claim second.nodes second.terms second.alternatives left.nodes left.terms left.alternatives
     (omega (arith, c.remove.auto.nodes, c.as_mut_slice.ensures.len)) (omega (arith, c.remove.auto.terms, c.as_mut_slice-2.ensures.len)) (omega (arith, c.remove.auto.alternatives, c.as_mut_slice-3.ensures.len)))
-    (remove R given after (Ok c.in-Ok.left) (g.met.S.System.sound c.args.system.now) (subst (λ s. Removes R c.args.case.claim s given (Ok c.in-Ok.left) after) c.tables.ensures c.in-Ok.ensures.outcome))
+    (remove R given after (Ok (c.in-Ok.claim, c.in-Ok.fills)) (g.met.S.System.sound c.args.system.now) (subst (λ s. Removes R c.args.case.claim s given (Ok (c.in-Ok.claim, c.in-Ok.fills)) after) c.tables.ensures c.in-Ok.ensures.outcome))
 
 pub returns-in-Err : goal.returns-in-Err
 returns-in-Err g c =
@@ -26,4 +26,4 @@ returns-in-Err g c =
     let left = c.remove.new in
     let given = slots c.as_mut_slice.result.now c.as_mut_slice-2.result.now c.as_mut_slice-3.result.now in
     let after = slots left.nodes left.terms left.alternatives in
-    remove R given after (Err c.in-Err.back) (g.met.S.System.sound c.args.system.now) (subst (λ s. Removes R c.args.case.claim s given (Err c.in-Err.back) after) c.tables.ensures c.in-Err.ensures.outcome)
+    remove R given after (Err (c.in-Err.claim, c.in-Err.why)) (g.met.S.System.sound c.args.system.now) (subst (λ s. Removes R c.args.case.claim s given (Err (c.in-Err.claim, c.in-Err.why)) after) c.tables.ensures c.in-Err.ensures.outcome)
