@@ -6,7 +6,7 @@ use Rattle.std.proofs.ByRecursion.{All-get_or}
 use Rattle.std.proofs.lemmas.List.Sums.{length-filter, count_by-le-length}
 use Rattle.formulas.specs.Lines.{part}
 use Rattle.formulas.specs.Tables.{over}
-use Rattle.simplification.specs.Moving.{put, Leaves, Moved}
+use Rattle.simplification.specs.Moving.{put, Remains, Moved}
 
 module _ {X : Type 0} where
   -- the plain form, also with nothing to put
@@ -127,19 +127,19 @@ module _ {X : Type 0} (old : List X) (p : ℕ) (x : X) where
 
 -- what R leaves of entries that are looked at one after another
 module _ {X : Type 0} (R : X → Option X → Type 0) where
-  pub left-few : (xs ys : List X) → Leaves R xs ys → length ys ≤ length xs
+  pub left-few : (xs ys : List X) → Remains R xs ys → length ys ≤ length xs
   left-few [] ys e = omega (arith, ap length e)
   left-few (x ∷ xs) ys (None, zs, r, l, e) = omega (arith, left-few xs zs l, ap length e)
   left-few (x ∷ xs) ys (Some y, zs, r, l, e) = omega (arith, left-few xs zs l, ap length e)
 
-  pub left-more : (xs ys : List X) (x : X) (o : Option X) → Leaves R xs ys → R x o → Leaves R (xs ++ (x ∷ [])) (ys ++ cons_option o [])
+  pub left-more : (xs ys : List X) (x : X) (o : Option X) → Remains R xs ys → R x o → Remains R (xs ++ (x ∷ [])) (ys ++ cons_option o [])
   left-more [] ys x o e r = (o, [], r, refl, ap (λ l. l ++ cons_option o []) e)
   left-more (z ∷ xs) ys x o (None, zs, q, l, e) r = (None, zs ++ cons_option o [], q, left-more xs zs x o l r, ap (λ l. l ++ cons_option o []) e)
   left-more (z ∷ xs) ys x o (Some y, zs, q, l, e) r = (Some y, zs ++ cons_option o [], q, left-more xs zs x o l r, ap (λ l. l ++ cons_option o []) e)
 
 -- where it leaves what f and g tell, that is the entries that pass f, changed by g
 pub left-is : {X : Type 0} (R : X → Option X → Type 0) (f : X → Bool) (g : X → X) (xs ys : List X)
-    → AllByRecursion (λ x. (o : Option X) → R x o → o ≡ cond (f x) (Some (g x)) None) xs → Leaves R xs ys → ys ≡ map g (filter f xs)
+    → AllByRecursion (λ x. (o : Option X) → R x o → o ≡ cond (f x) (Some (g x)) None) xs → Remains R xs ys → ys ≡ map g (filter f xs)
 left-is R f g [] ys h e = e
 left-is R f g (x ∷ xs) ys h (o, zs, r, l, e) =
     e ∙ (ap₂ (λ (o : Option _) (ws : List _). cons_option o ws) (h.0 o r) (left-is R f g xs zs h.1 l) ∙ passes (f x))
@@ -182,7 +182,7 @@ module _ {X : Type 0} (R : X → Option X → Type 0) (xs : List X) (p s : ℕ) 
   moving-none =
       let none : p - p ≡ 0 = omega arith in
       let e : part xs p (p - p) ≡ [] = ap (part xs p) none in
-      record { left = []; each = subst (λ l. Leaves R l []) (sym e) refl; end = omega arith; is = refl }
+      record { left = []; each = subst (λ l. Remains R l []) (sym e) refl; end = omega arith; is = refl }
 
   module _ (ys : List X) (q w : ℕ) (m : Moving R xs ys p s q w) (past : s ≤ p) (low : p ≤ q) (h : q < length xs) where
     few : length m.left ≤ q - p
@@ -201,13 +201,13 @@ module _ {X : Type 0} (R : X → Option X → Type 0) (xs : List X) (p s : ℕ) 
         subst P (part_at xs p count n d (omega arith) ∙ (ap (λ k. get_or xs k d) here ∙ (sym (moving-read d) ∙ sym e)))
         (All-get_or P (part xs p count) n d (omega (arith, length_part xs p count l)) a)
 
-    grows : (d : X) → d ≡ get_or ys q d → (o : Option X) → R d o → Leaves R (part xs p ((q + 1) - p)) (m.left ++ cons_option o [])
+    grows : (d : X) → d ≡ get_or ys q d → (o : Option X) → R d o → Remains R (part xs p ((q + 1) - p)) (m.left ++ cons_option o [])
     grows d e o r =
         let n = q - p in
         let here : p + n ≡ q = omega arith in
         let next : (q + 1) - p ≡ n + 1 = omega arith in
         let more = ap (part xs p) next ∙ (part-more xs p n d (omega arith) ∙ ap (λ k. part xs p n ++ (get_or xs k d ∷ [])) here) in
-        subst (λ l. Leaves R l (m.left ++ cons_option o [])) (sym more)
+        subst (λ l. Remains R l (m.left ++ cons_option o [])) (sym more)
         (left-more R (part xs p n) m.left (get_or xs q d) o m.each (subst (λ x. R x o) (e ∙ moving-read d) r))
 
     pub moving-take : (d : X) → d ≡ get_or ys q d → (y : X) → R d (Some y) → (ys' : List X) (w' : ℕ) → ys' ≡ set ys w y → w' ≡ w + 1 → Moving R xs ys' p s (q + 1) w'
@@ -221,7 +221,7 @@ module _ {X : Type 0} (R : X → Option X → Type 0) (xs : List X) (p s : ℕ) 
     pub moving_skip : (d : X) → d ≡ get_or ys q d → R d None → (ys' : List X) (w' : ℕ) → ys' ≡ ys → w' ≡ w → Moving R xs ys' p s (q + 1) w'
     moving_skip d e r ys' w' u v = record {
       left = m.left;
-      each = subst (λ l. Leaves R (part xs p ((q + 1) - p)) l) (append-nil m.left) (grows d e None r);
+      each = subst (λ l. Remains R (part xs p ((q + 1) - p)) l) (append-nil m.left) (grows d e None r);
       end = v ∙ m.end;
       is = u ∙ m.is;
     }

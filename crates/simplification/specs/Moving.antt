@@ -51,14 +51,14 @@ put p [] old = old
 put p (x ∷ new) old = take p old ++ ((x ∷ new) ++ drop (p + length (x ∷ new)) old)
 
 -- ys is what R leaves of each of xs: an entry, or nothing
-abbrev pub Leaves : {X : Type 0} → (X → Option X → Type 0) → List X → List X → Type 0
-Leaves R [] ys = ys ≡ []
-Leaves {X} R (x ∷ xs) ys = (o : Option X) × (zs : List X) × R x o × Leaves R xs zs × (ys ≡ cons_option o zs)
+abbrev pub Remains : {X : Type 0} → (X → Option X → Type 0) → List X → List X → Type 0
+Remains R [] ys = ys ≡ []
+Remains {X} R (x ∷ xs) ys = (o : Option X) × (zs : List X) × R x o × Remains R xs zs × (ys ≡ cons_option o zs)
 
 -- what R leaves of these entries is moved to the place p, and e is where it ends
 pub record Moved {X : Type 0} (R : X → Option X → Type 0) (xs : List X) (p : ℕ) (old : List X) (e : ℕ) (new : List X) : Type 0 where
   pub left : List X
-  pub each : Leaves R xs left
+  pub each : Remains R xs left
   pub end : e ≡ p + length left
   pub is : new ≡ put p left old
 

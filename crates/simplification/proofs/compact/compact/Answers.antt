@@ -1,15 +1,8 @@
-use Rattle.std.proofs.Common.{◌≡◌, ◌<◌, length, get_or, refl, ◌∙◌, ⊎_elim, arith}
+use Rattle.std.proofs.Common.{◌≡◌, ◌<◌, length, get_or, ◌∙◌, ⊎_elim, arith}
 use Rattle.std.proofs.lemmas.Bool.{cases_eq}
 use Rattle.formulas.specs.Tables.{held}
-use Rattle.simplification.specs.Packed.{all_lines}
-use Rattle.simplification.specs.Compacting.{is_ticked}
-use Rattle.simplification.proofs.Compactings.{compacting_none, low, compacting_fits, kept-turn, gone_turn, compacting_all}
+use Rattle.simplification.proofs.Compactings.{low, compacting_fits, kept-turn, gone_turn}
 use Rattle.simplification.proofs.compact.compact.Goals as goal
-
-pub loop-i-init : goal.loop-i-init
-loop-i-init c =
-    let s = held c.args.tables.now in
-    ((refl, refl, refl), (refl, refl, refl), compacting_none (is_ticked c.args.map.now) (all_lines s) s c.args.map.now)
 
 pub compact_at-used-requires : goal.compact_at-used-requires
 compact_at-used-requires c =
@@ -47,10 +40,3 @@ loop-i-preserved c =
           e (E.gone e))
           (cases_eq (get_or c.loop-i.map c.loop-i.i 0) 1),
     )
-
-pub returns : goal.returns
-returns c =
-    let all =
-    compacting_all (is_ticked c.args.map.now) (held c.args.tables.now) c.args.map.now
-    c.loop-i.i c.loop-i.used (held c.loop-i.tables) c.loop-i.map c.loop-i.invariant.2 (omega (arith, c.loop-i.auto.i-end, c.loop-i-test.false)) in
-    record { lent = c.loop-i.invariant.0; sizes = c.loop-i.invariant.1; tables = all.0; used = all.1; numbers = all.2 }

@@ -1,24 +1,13 @@
-use Rattle.std.proofs.Common.{rules, ◌≡◌, ℕ, [], ◌∷◌, length, get_or, replicate, sym, ap, ◌∙◌, subst, ap₂, arith}
+use Rattle.std.proofs.Common.{◌≡◌, ℕ, [], ◌∷◌, length, ap, ◌∙◌, subst, ap₂, arith}
 use Rattle.formulas.specs.declared.node.Fills.{Fills}
 use Rattle.formulas.specs.Layout.{fills}
 use Rattle.formulas.specs.Tables.{Slots, held, laid}
 use Rattle.simplification.specs.Simplify.{reached}
-use Rattle.simplification.specs.Packed.{all_lines, whole, Packed}
+use Rattle.simplification.specs.Packed.{all_lines, whole}
 use Rattle.simplification.specs.Reaching.{Ticks}
 use Rattle.simplification.proofs.Laid.{formed-ordered}
-use Rattle.simplification.proofs.Cutting.{lines_long, ticks_closed, compacted-is, root_is, all_zero}
+use Rattle.simplification.proofs.Cutting.{lines_long, ticks_closed, compacted-is, root_is}
 use Rattle.simplification.proofs.in_place.cut.Goals as goal
-
-pub reach-requires : goal.reach-requires
-reach-requires c =
-    let blank : c.fill.new.self ≡ replicate (length c.args.map.now) 0 = search rules in
-    let long = c.fill.auto.self ∙ c.requires.long in
-    record {
-      root = omega (arith, c.requires.root, long);
-      long = long ∙ ap (λ (s : Slots). length s.nodes) (sym c.shared.ensures);
-      blank = λ j. ap (λ xs. get_or xs j 0) blank ∙ all_zero (length c.args.map.now) j;
-      packed = subst Packed (sym c.shared.ensures) c.requires.packed;
-    }
 
 pub compact-fills-requires : goal.compact-fills-requires
 compact-fills-requires c =

@@ -1,6 +1,6 @@
-use Rattle.std.proofs.Common.{◌≡◌, ℕ, ◌+◌, ◌<◌, Bool, true, cond, eqb, [], ◌∷◌, length, get_or, drop, sym, ap, ◌∙◌, subst, arith, length-set}
+use Rattle.std.proofs.Common.{◌≡◌, ℕ, ◌+◌, ◌<◌, Bool, true, cond, [], ◌∷◌, length, get_or, drop, sym, ap, ◌∙◌, subst, arith, length-set}
 use Rattle.std.proofs.lemmas.Bool.{eq-eqb, ne_eqb}
-use Rattle.std.proofs.lemmas.List.{length-map, get_or-map, take_all}
+use Rattle.std.proofs.lemmas.List.{length-map, get_or-map}
 use Rattle.std.proofs.ByRecursion.{All-weaker}
 use Rattle.formulas.specs.Lines.{state, Line, constant, line}
 use Rattle.formulas.specs.Tables.{contents}
@@ -12,24 +12,8 @@ use Rattle.simplification.specs.Moving.{Fit}
 use Rattle.simplification.specs.Reaching.{ticked, Ticks}
 use Rattle.simplification.proofs.Laid.{formed-ordered}
 use Rattle.simplification.proofs.Cutting.{packed-fits}
-use Rattle.simplification.proofs.Ticking.{last-long, last-is, last-front, ticks_start, ticks_turn}
+use Rattle.simplification.proofs.Ticking.{last-long, last-is, last-front, ticks_turn}
 use Rattle.simplification.proofs.reach.reach.Goals as goal
-
-pub loop-i-init : goal.loop-i-init
-loop-i-init c =
-    let ns = c.args.tables.nodes.now in
-    let ls = all_lines (contents c.args.tables) in
-    let rest = c.into_iter-i-iterator.result.iter.iter.rest.now in
-    let made = c.into_iter-i-iterator.ensures.into_iter_gives in
-    let from = c.rev-i-items.ensures.source in
-    let all : rest ≡ ns =
-    ap (λ r. r.iter.iter.rest.now) made ∙ (ap (λ r. r.iter.rest.now) from ∙ (ap (λ r. r.rest.now) c.enumerate.ensures.source ∙ c.iter.ensures.rest)) in (
-      ap (λ r. r.iter.count) made ∙ (ap (λ r. r.count) from ∙ c.enumerate.ensures.count),
-      omega (arith, ap length all),
-      all ∙ sym (take_all (length rest) ns (omega (arith, ap length all))),
-      ticks_start ls c.args.ticks.now c.args.root (length rest) c.requires.blank c.requires.root
-          (omega (arith, ap length all, length-map ns (line c.args.tables.terms.now c.args.tables.alternatives.now))),
-    )
 
 pub tick_node-requires : goal.tick_node-requires
 tick_node-requires c =
