@@ -28,16 +28,7 @@ fn answer<S: System>(
     let mass = claim.mass();
     let shared = claim.shared();
     // Both arms are written out, since the claim goes back with an error.
-    match divide(
-        standing,
-        mass,
-        shared,
-        tables,
-        system,
-        second.nodes,
-        second.terms,
-        second.alternatives,
-    ) {
+    match divide(standing, mass, shared, tables, system, second) {
         Ok(left) => Ok((Claim::new(left, mass * system.mass(), shared), left.fills)),
         Err(why) => Err((claim, why)),
     }

@@ -20,14 +20,7 @@ fn answer(claim: &mut Claim, tables: &mut TablesMut, map: &mut [u32]) -> Result<
     ensures settled { LeftSettled result claim.new (held tables.new) }
 {
     let standing = claim.standing();
-    let new = simplify_in_place(
-        standing,
-        claim.mass(),
-        tables.nodes,
-        tables.terms,
-        tables.alternatives,
-        map,
-    )?;
+    let new = simplify_in_place(standing, claim.mass(), tables, map)?;
     claim.take_up(new);
     Ok(new.fills)
 }

@@ -1,3 +1,3 @@
 // The tables that the formula of a claim stands in.
 
-pub use formulas::tables::Tables;
+pub use formulas::tables::{Tables, TablesMut};

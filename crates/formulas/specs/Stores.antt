@@ -12,7 +12,7 @@ use Rattle.formulas.specs.Grammar.{Item, Out}
 use Rattle.formulas.specs.Layout.{node_table, term_table, alternative_table}
 use Rattle.formulas.specs.Lines.{Sort, state, Line}
 use Rattle.formulas.specs.Readers.{Takes}
-use Rattle.formulas.specs.Tables.{Slots, slots}
+use Rattle.formulas.specs.Tables.{Slots, slots, SameLoan}
 use Rattle.formulas.specs.Trees.{Tree, leaf, conj, neg, dia, here, at_least, Products, none, product, below, below_products, count, terms, lay, lay_products}
 
 pub record Store : Type 0 where
@@ -33,10 +33,7 @@ filled r = holding r.fills (slots r.nodes.now r.terms.now r.alternatives.now)
 
 -- the readers r and v fill the same three tables
 abbrev pub SameTables : Reader → Reader → Type 0
-SameTables r v =
-    (v.nodes.ghost_name ≡ r.nodes.ghost_name)
-    × (v.terms.ghost_name ≡ r.terms.ghost_name)
-    × (v.alternatives.ghost_name ≡ r.alternatives.ghost_name)
+SameTables r v = SameLoan r.nodes v.nodes × SameLoan r.terms v.terms × SameLoan r.alternatives v.alternatives
 
 -- the reader r answers x and becomes v, having read what f says, and d bytes at least; V says what that does to the tables
 abbrev pub Parses : {A X : Type 0} → ℕ → (ℕ → List Item → Out A) → (Store → Store → A → X → Type 0) → Reader → Result X GrammarFault → Reader → Type 0

@@ -1,5 +1,6 @@
 -- What the three tables of a formula hold: the formula at their fronts, anything behind it.
 use Rattle.std.specs.Prelude.{◌≡◌, ℕ, ◌≤◌, Bool, ◌&&◌, List, ◌++◌, length, take, drop, nat_le}
+use Rattle.std.specs.Borrow.{MutBor}
 use Rattle.formulas.specs.declared.node.Fills.{Fills}
 use Rattle.formulas.specs.declared.node.Node.{Node}
 use Rattle.formulas.specs.declared.node.Term.{Term}
@@ -26,12 +27,13 @@ contents t = slots t.nodes.now t.terms.now t.alternatives.now
 abbrev pub held : TablesMut → Slots
 held t = slots t.nodes.now t.terms.now t.alternatives.now
 
+-- v is the loan u of a table, and the table is as long as before
+abbrev pub SameLoan : {X : Type 0} → MutBor (List X) → MutBor (List X) → Type 0
+SameLoan u v = (v.ghost_name ≡ u.ghost_name) × (length v.now ≡ length u.now)
+
 -- t and u are loans of the same three tables
 abbrev pub SameLoans : TablesMut → TablesMut → Type 0
-SameLoans t u =
-    (u.nodes.ghost_name ≡ t.nodes.ghost_name)
-    × (u.terms.ghost_name ≡ t.terms.ghost_name)
-    × (u.alternatives.ghost_name ≡ t.alternatives.ghost_name)
+SameLoans t u = SameLoan t.nodes u.nodes × SameLoan t.terms u.terms × SameLoan t.alternatives u.alternatives
 
 -- a table takes what is needed of it: no more than it has, and no more than any may use
 abbrev pub takes : ℕ → ℕ → Bool

@@ -7,7 +7,7 @@ use claims::claim::Claim;
 use claims::fault::Refusal;
 use claims::remove::remove;
 use claims::simplify::simplify;
-use claims::tables::Tables;
+use claims::tables::{Tables, TablesMut};
 use formulas::node::{Fills, Node, StateNode, Term};
 use std::alloc::{AllocError, Global};
 use systems::system::System;
@@ -68,9 +68,11 @@ impl Case {
         let mut map = vec![in heap; 0u32; count]?;
         Ok(simplify(
             &mut self.claim,
-            self.store.nodes.as_mut_slice(),
-            self.store.terms.as_mut_slice(),
-            self.store.alternatives.as_mut_slice(),
+            &mut TablesMut {
+                nodes: self.store.nodes.as_mut_slice(),
+                terms: self.store.terms.as_mut_slice(),
+                alternatives: self.store.alternatives.as_mut_slice(),
+            },
             map.as_mut_slice(),
         ))
     }
@@ -94,9 +96,11 @@ fn remove_into<S: System>(
         claim,
         store.tables(),
         system,
-        second.nodes.as_mut_slice(),
-        second.terms.as_mut_slice(),
-        second.alternatives.as_mut_slice(),
+        &mut TablesMut {
+            nodes: second.nodes.as_mut_slice(),
+            terms: second.terms.as_mut_slice(),
+            alternatives: second.alternatives.as_mut_slice(),
+        },
     ) {
         Ok((claim, fills)) => Ok(Ok((
             Case {

@@ -12,7 +12,7 @@ use crate::words::{LineFault, action_set, number, promise_text, split, target};
 use claims::claim::Claim;
 use claims::fault::Refusal;
 use claims::opening::open;
-use claims::tables::Tables;
+use claims::tables::{Tables, TablesMut};
 use claims::verdict::Verdict;
 use formulas::draft::Draft;
 use formulas::read::read;
@@ -351,9 +351,11 @@ impl Started {
 fn read_claim(text: &str, store: &mut Store, shared: ActionSet) -> Result<Claim, Refused> {
     let draft = read(
         text.as_bytes(),
-        store.nodes.as_mut_slice(),
-        store.terms.as_mut_slice(),
-        store.alternatives.as_mut_slice(),
+        &mut TablesMut {
+            nodes: store.nodes.as_mut_slice(),
+            terms: store.terms.as_mut_slice(),
+            alternatives: store.alternatives.as_mut_slice(),
+        },
     )?;
     Ok(open_on(draft, store.tables(), shared)?)
 }

@@ -28,13 +28,6 @@ blank_node = State sn.TheVariants.Yes
 abbrev pub blank_term : Term
 blank_term = record { coefficient = 0; node = 0 }
 
--- tables as long as these
-abbrev pub SameSizes : Slots → Slots → Type 0
-SameSizes s t =
-    (length t.nodes ≡ length s.nodes)
-    × (length t.terms ≡ length s.terms)
-    × (length t.alternatives ≡ length s.alternatives)
-
 -- these entries, then blanks for the rest of n entries
 abbrev pub padded : {X : Type 0} → ℕ → X → List X → List X
 padded n blank new = new ++ replicate (n - length new) blank

@@ -6,7 +6,7 @@ ghost use Rattle.formulas.specs.Layout.{fills};
 ghost use Rattle.formulas.specs.Tables.{SameLoans, held, laid};
 ghost use Rattle.formulas.specs.WellFormed.{line_at};
 ghost use Rattle.simplification.specs.Simplify.{parts, renumber, rank};
-ghost use Rattle.simplification.specs.Tables.{blank_node, SameSizes};
+ghost use Rattle.simplification.specs.Tables.{blank_node};
 ghost use Rattle.simplification.specs.Packed.{all_lines, Packed};
 ghost use Rattle.simplification.specs.Moving.{FitStep, FitSum, FitState, FitDist, Fit, StateAt, DistAt, LaidAt};
 ghost use Rattle.simplification.specs.Compacting.{new_number, is_ticked, KeptAt, GoneAt, compacted};
@@ -157,7 +157,6 @@ fn compact_at(i: usize, used: Fills, tables: &mut TablesMut, map: &mut [u32]) ->
     requires few { i + 1 < 2 ^ 32 }
     requires fit { Fit (λ d. d < length map.old) tables.old.terms.now tables.old.alternatives.now used.terms used.alternatives (slice_index_or tables.old.nodes.now i blank_node) }
     ensures lent { SameLoans tables.old tables.new }
-    ensures sizes { SameSizes (held tables.old) (held tables.new) }
     ensures kept { slice_index map.old i ≡ 1 → KeptAt i used (held tables.old) map.old result (held tables.new) map.new }
     ensures gone { (slice_index map.old i ≢ 1) → GoneAt used (held tables.old) map.old result (held tables.new) map.new }
 {
@@ -185,7 +184,6 @@ pub(crate) fn compact(tables: &mut TablesMut, map: &mut [u32]) -> Fills
     requires room { length tables.old.nodes.now ≤ length map.old }
     requires closed { (i : ℕ) → i < length tables.old.nodes.now → is_ticked map.old i ≡ true → AllByRecursion (λ j. is_ticked map.old j ≡ true) (parts (line_at (all_lines (held tables.old)) i)) }
     ensures lent { SameLoans tables.old tables.new }
-    ensures sizes { SameSizes (held tables.old) (held tables.new) }
     ensures tables { held tables.new ≡ laid (compacted (is_ticked map.old) (all_lines (held tables.old))) (held tables.old) }
     ensures used { result ≡ fills (compacted (is_ticked map.old) (all_lines (held tables.old))) }
     ensures numbers { (j : ℕ) → j < length tables.old.nodes.now → is_ticked map.old j ≡ true → slice_index map.new j ≡ rank (is_ticked map.old) j }

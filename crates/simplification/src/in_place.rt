@@ -2,7 +2,7 @@
 ghost use Rattle.std.specs.Prelude.{◌≡◌, ◌-◌, ◌<◌, ◌≤◌, [], ◌++◌, length, take, replicate};
 ghost use Rattle.formulas.specs.Tables.{slots, SameLoans, contents, held, laid, formula_at, standing as standing_of};
 ghost use Rattle.simplification.specs.Simplify.{prune, simplify};
-ghost use Rattle.simplification.specs.Tables.{blank_node, blank_term, SameSizes, padded, desk, taken_up, done, simplified, NoMore, SettlesIn};
+ghost use Rattle.simplification.specs.Tables.{blank_node, blank_term, padded, desk, taken_up, done, simplified, NoMore, SettlesIn};
 ghost use Rattle.simplification.specs.Packed.{whole, Packed, filled, Ready};
 
 use crate::compact::compact;
@@ -30,7 +30,6 @@ fn cut(root: u32, tables: &mut TablesMut, map: &mut [u32]) -> Standing
     requires long { length map.old ≡ length tables.old.nodes.now }
     requires root { root < length tables.old.nodes.now }
     ensures lent { SameLoans tables.old tables.new }
-    ensures sizes { SameSizes (held tables.old) (held tables.new) }
     ensures answer { result ≡ standing_of (prune (whole root (held tables.old))) }
     ensures tables { held tables.new ≡ laid (prune (whole root (held tables.old))).lines (held tables.old) }
 {

@@ -4,7 +4,7 @@ ghost use Rattle.std.specs.List.{AllByRecursion};
 ghost use Rattle.formulas.specs.Lines.{step, sum, entries, state_line, dist_line, line};
 ghost use Rattle.formulas.specs.Tables.{slots, SameLoans, held, over, laid};
 ghost use Rattle.simplification.specs.Simplify.{tone, tone_of, is_yes, is_no, is_neither, retarget, both_outcome, non_line, became, coefficients, has_yes, terms_left, yes_part};
-ghost use Rattle.simplification.specs.Tables.{blank_node, SameSizes};
+ghost use Rattle.simplification.specs.Tables.{blank_node};
 ghost use Rattle.simplification.specs.Packed.{all_lines, Packed};
 ghost use Rattle.simplification.specs.Moving.{FitStep, FitSum, FitState, FitDist, Fit, Bare, StateAt, DistAt, LaidAt};
 ghost use Rattle.simplification.specs.Settling.{shade, glance_of, both_left, leaves, Led, LedBy, SettledAt, left_lines, left_numbers};
@@ -363,7 +363,6 @@ pub(crate) fn settle(tables: &mut TablesMut, map: &mut [u32])
     requires packed { Packed (held tables.old) }
     requires room { length tables.old.nodes.now ≤ length map.old }
     ensures lent { SameLoans tables.old tables.new }
-    ensures sizes { SameSizes (held tables.old) (held tables.new) }
     ensures tables { held tables.new ≡ laid (left_lines (all_lines (held tables.old))) (held tables.old) }
     ensures map { map.new ≡ over (left_numbers (all_lines (held tables.old))) map.old }
 {

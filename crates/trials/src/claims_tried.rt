@@ -3,7 +3,7 @@ use anyhow::anyhow;
 use claims::claim::Claim;
 use claims::judge::judge;
 use claims::opening::open;
-use claims::tables::Tables;
+use claims::tables::{Tables, TablesMut};
 use claims::verdict::Verdict;
 use formulas::draft::Draft;
 use formulas::node::{Node, StateNode, Term};
@@ -79,9 +79,11 @@ impl Slots {
     fn read(&mut self) -> anyhow::Result<Draft> {
         match read(
             PROMISE,
-            self.nodes.as_mut_slice(),
-            self.terms.as_mut_slice(),
-            self.alternatives.as_mut_slice(),
+            &mut TablesMut {
+                nodes: self.nodes.as_mut_slice(),
+                terms: self.terms.as_mut_slice(),
+                alternatives: self.alternatives.as_mut_slice(),
+            },
         ) {
             Ok(draft) => Ok(draft),
             Err(_) => Err(anyhow!("the promise is not read")),

@@ -2,6 +2,7 @@
 use formulas::fault::{Layer, ReadFault};
 use formulas::node::{Node, StateNode, Term};
 use formulas::read::read;
+use formulas::tables::TablesMut;
 use std::alloc::{AllocError, Global};
 use std::io;
 
@@ -84,9 +85,11 @@ fn try_into(rt: &HostRuntime, label: &str, text: &[u8], tables: &mut Slots) -> i
     print!(rt; "{label}: ")?;
     match read(
         text,
-        tables.nodes.as_mut_slice(),
-        tables.terms.as_mut_slice(),
-        tables.alternatives.as_mut_slice(),
+        &mut TablesMut {
+            nodes: tables.nodes.as_mut_slice(),
+            terms: tables.terms.as_mut_slice(),
+            alternatives: tables.alternatives.as_mut_slice(),
+        },
     ) {
         Ok(draft) => {
             let fills = draft.fills();

@@ -1,6 +1,6 @@
 use Rattle.std.proofs.Common.{◌*◌, sym, refl, ◌∙◌, ap₂, arith}
 use native.Mathlib.Nat.{one-le-mul}
-use Rattle.formulas.specs.Tables.{slots, contents, held}
+use Rattle.formulas.specs.Tables.{contents, held}
 use Rattle.claims.proofs.Removing.{light, few, as_claimed, removes}
 use Rattle.claims.proofs.remove.answer.Goals as goal
 
@@ -32,7 +32,7 @@ returns-in-Ok-clause-outcome g c =
     let R = g.S.System.meaning c.args.system.now in
     let s = contents c.args.tables in
     let second = held c.args.second.now in
-    let last = slots c.divide.new.nodes c.divide.new.terms c.divide.new.alternatives in
+    let last = held c.divide.new.second in
     removes R c.args.claim s second _ _ _ _ c.standing-standing.ensures.fills c.standing-standing.ensures.root c.mass-mass.ensures c.shared-shared.ensures
     c.in-Ok.left c.new.result last c.in-Ok.ensures.value c.in-Ok.ensures.tables
     c.new.ensures.fills c.new.ensures.root (c.new.ensures.mass ∙ ap₂ ◌*◌ c.mass-mass.ensures c.mass.ensures) c.new.ensures.shared

@@ -1,5 +1,5 @@
 use Rattle.std.proofs.Common.{sym, subst, ap₂}
-use Rattle.formulas.specs.Tables.{slots, held, formula_at}
+use Rattle.formulas.specs.Tables.{held, formula_at}
 use Rattle.simplification.specs.Laws.{Settles}
 use Rattle.simplification.specs.Tables.{desk}
 use Rattle.claims.proofs.Simplifying.{few-left, accepts}
@@ -11,10 +11,10 @@ take_up-requires c = few-left _ _ _ c.in_ok-new.ensures.fewer c.standing-standin
 pub returns-clause-outcome : goal.returns-clause-outcome
 returns-clause-outcome c =
     let before = desk (held c.args.tables.now) c.args.map.now in
-    let after = slots c.simplify_in_place.new.nodes c.simplify_in_place.new.terms c.simplify_in_place.new.alternatives in
+    let after = held c.simplify_in_place.new.tables in
     accepts c.args.claim.now before (desk after c.simplify_in_place.new.map) _ _ _ c.standing-standing.ensures.fills c.standing-standing.ensures.root c.mass.ensures c.in_ok-new.new _ c.in_ok-new.ensures.outcome c.take_up.ensures.fills c.take_up.ensures.root c.take_up.ensures.mass c.take_up.ensures.shared
 
 pub returns-clause-settled : goal.returns-clause-settled
 returns-clause-settled c =
-    let after = slots c.simplify_in_place.new.nodes c.simplify_in_place.new.terms c.simplify_in_place.new.alternatives in
+    let after = held c.simplify_in_place.new.tables in
     subst Settles (sym (ap₂ (λ f r. formula_at f r after) c.take_up.ensures.fills c.take_up.ensures.root)) c.in_ok-new.ensures.settled

@@ -1,5 +1,4 @@
 use Rattle.formulas.specs.Tables.{SameLoans, held}
-use Rattle.simplification.specs.Tables.{SameSizes}
 use Rattle.simplification.specs.Packed.{all_lines}
 use Rattle.simplification.specs.Compacting.{is_ticked}
 use Rattle.simplification.proofs.Compactings.{Compacting}
@@ -9,5 +8,4 @@ abbrev pub invariant-loop-i : goal.invariant-loop-i
 invariant-loop-i l =
     let s = held l.initial.tables in
     SameLoans l.initial.tables l.tables
-    × SameSizes s (held l.tables)
     × Compacting (is_ticked l.initial.map) (all_lines s) s l.initial.map l.i l.used (held l.tables) l.map

@@ -38,7 +38,6 @@ returns c =
     let root = root_is F o (omega (arith, same, c.requires.root)) to long ticks c.compact-fills.new.map (λ j h. c.compact-fills.ensures.numbers j (omega (arith, same))) in
     record {
       lent = c.compact-fills.ensures.lent;
-      sizes = c.compact-fills.ensures.sizes;
       answer = ap₂ (λ (f : Fills) (r : ℕ). record { fills = f; root = r }) (c.compact-fills.ensures.used ∙ ap fills is) root;
       tables = c.compact-fills.ensures.tables ∙ ap (λ xs. laid xs s) is;
     }

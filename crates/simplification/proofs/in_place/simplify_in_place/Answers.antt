@@ -1,4 +1,4 @@
-use Rattle.std.proofs.Common.{refl, sym, ap, ◌∙◌, arith}
+use Rattle.std.proofs.Common.{rules, refl, sym, ap, ◌∙◌, arith}
 use Rattle.formulas.specs.Tables.{Slots, slots, stands_in, held}
 use Rattle.simplification.specs.Tables.{desk}
 use Rattle.simplification.proofs.Fronts.{ready, no_more, settles_in, accepted}
@@ -30,7 +30,7 @@ returns c =
     let answer = c.simplify_front.ensures.answer in
     let left = c.simplify_front.ensures.left in
     record {
-      lent = (refl, refl, refl);
+      lent = search rules;
       outcome = accepted f root c.args.mass s stands c.args.map.now x d c.if-map-standing.false answer left;
       fewer = no_more f root c.args.mass s stands law c.layout_stands.ensures.tables x answer;
       settled = settles_in f root c.args.mass s stands law c.layout_stands.ensures.lines c.args.map.now x d answer left;
