@@ -2,15 +2,20 @@
 use Rattle.std.specs.Prelude.{Ok, Err, is_err, vec_items, Result}
 use Rattle.systems.specs.Meaning.{Meaning}
 use Rattle.formulas.specs.declared.node.Fills.{Fills}
-use Rattle.formulas.specs.Tables.{slots}
+use Rattle.formulas.specs.Tables.{Slots, slots}
 use Rattle.formulas.specs.declared.refusal.Refusal.{Refusal}
 use Rattle.claims.specs.Books.{removing, simplifying, entry, Stage, stage}
 use Rattle.claims.specs.Runs.{Step}
 use Rattle.qcheck.specs.declared.case.Case.{Case}
+use Rattle.qcheck.specs.declared.case.Store.{Store}
+
+-- the entries of owned tables
+abbrev pub owned : Store → Slots
+owned s = slots (vec_items s.nodes) (vec_items s.terms) (vec_items s.alternatives)
 
 -- where the claim of a case is
 abbrev pub stage_of : Case → Stage
-stage_of c = stage c.claim (slots (vec_items c.store.nodes) (vec_items c.store.terms) (vec_items c.store.alternatives))
+stage_of c = stage c.claim (owned c.store)
 
 -- the cases before and after simplify are one step apart
 abbrev pub Simplification : Case → Case → Result Fills Refusal → Type 0

@@ -1,7 +1,9 @@
 // A claim with the tables that hold its formula.
 ghost use Rattle.std.specs.Prelude.{◌≡◌, IfOk};
-ghost use Rattle.formulas.specs.Tables.{slots, contents};
-ghost use Rattle.qcheck.specs.Cases.{Simplification, Removal};
+ghost use Rattle.formulas.specs.Tables.{contents};
+ghost use Rattle.simplification.specs.Tables.{desk};
+ghost use Rattle.claims.specs.Simplifications.{Simplifies};
+ghost use Rattle.qcheck.specs.Cases.{owned, Simplification, Removal};
 
 use claims::claim::Claim;
 use claims::fault::Refusal;
@@ -49,13 +51,28 @@ impl Store {
     }
 
     pub fn tables(&self) -> Tables
-        ensures { contents result ≡ slots self.now.nodes.items self.now.terms.items self.now.alternatives.items }
+        ensures { contents result ≡ owned self.now }
     {
         Tables {
             nodes: self.nodes.as_slice(),
             terms: self.terms.as_slice(),
             alternatives: self.alternatives.as_slice(),
         }
+    }
+
+    // Simplifies the claim that these tables hold.
+    fn simplify(&mut self, claim: &mut Claim, map: &mut [u32]) -> Result<Fills, Refusal>
+        ensures { Simplifies claim.old (desk (owned self.old) map.old) result claim.new (desk (owned self.new) map.new) }
+    {
+        simplify(
+            claim,
+            &mut TablesMut {
+                nodes: &mut self.nodes[..],
+                terms: &mut self.terms[..],
+                alternatives: &mut self.alternatives[..],
+            },
+            map,
+        )
     }
 }
 
@@ -66,15 +83,8 @@ impl Case {
     {
         let count = self.claim.fills().nodes as usize;
         let mut map = vec![in heap; 0u32; count]?;
-        Ok(simplify(
-            &mut self.claim,
-            &mut TablesMut {
-                nodes: self.store.nodes.as_mut_slice(),
-                terms: self.store.terms.as_mut_slice(),
-                alternatives: self.store.alternatives.as_mut_slice(),
-            },
-            map.as_mut_slice(),
-        ))
+        let store = &mut self.store;
+        Ok(store.simplify(&mut self.claim, map.as_mut_slice()))
     }
 }
 
@@ -97,9 +107,9 @@ fn remove_into<S: System>(
         store.tables(),
         system,
         &mut TablesMut {
-            nodes: second.nodes.as_mut_slice(),
-            terms: second.terms.as_mut_slice(),
-            alternatives: second.alternatives.as_mut_slice(),
+            nodes: &mut second.nodes[..],
+            terms: &mut second.terms[..],
+            alternatives: &mut second.alternatives[..],
         },
     ) {
         Ok((claim, fills)) => Ok(Ok((
