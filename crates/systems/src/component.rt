@@ -53,7 +53,7 @@ impl Component {
         moves: &[MoveRecord],
         targets: &[Target],
     ) -> Result<Component, MountFault>
-        ensures { elim result [ Ok v ↦ (mount_fault states moves.now targets.now ≡ None) × (index_meaning v.states v.breadth (map vec_items v.cells.items) v.targets.items ≡ table_meaning states moves.now targets.now) | Err f ↦ mount_fault states moves.now targets.now ≡ blamed f ] }
+        ensures { elim result [ Ok v ↦ (mount_fault states moves.now targets.now ≡ None) × (⟦<Component as System>⟧.meaning v ≡ table_meaning states moves.now targets.now) | Err f ↦ mount_fault states moves.now targets.now ≡ blamed f ] }
     {
         let breadth = survey(states, moves, targets)?;
         let cells = grouped(heap, states, moves)?;
