@@ -19,6 +19,11 @@ returns-in_err-x g c =
     c.from_residual-in_err-x.ensures
     ∙ no_upper c.in_ok-u.ensures c.args.action c.args.mv c.if-contains.ensures c.moves-low.ensures c.if-low-eq0.false c.targets-n.ensures c.args.index c.if-n-eq0.false c.in_err-x.ensures
 
+pub returns-in_err-y : goal.returns-in_err-y
+returns-in_err-y g c =
+    c.from_residual-in_err-y.ensures
+    ∙ target-shared c.in_ok-u.ensures c.args.action c.args.mv c.if-contains.ensures c.moves-low.ensures c.if-low-eq0.false c.targets-n.ensures c.args.index c.states-k.ensures c.if-n-eq0.false c.in_ok-x.ensures c.in_err-y.ensures
+
 pub over-requires : goal.over-requires
 over-requires g c =
     room-shared c.in_ok-u.ensures c.args.action c.states-k.ensures (c.args.mv / c.moves-low.result) (c.args.index / c.targets-n.result) (c.args.mv % c.moves-low.result) (c.args.index % c.targets-n.result) c.in_ok-x.ensures c.in_ok-y.ensures
