@@ -44,6 +44,10 @@ module _ (S : Meaning) (s : Ruled S) where
       go (inl l) = at (get_or (S.moves k a) i []) (good_move S s k a i l) (cases_lt j (length (get_or (S.moves k a) i [])))
       go (inr g) = rw (get_or_past (S.moves k a) i [] g) tt
 
+-- one over the other, where the lower system has k states, is within the limits
+abbrev pub Room : ℕ → Target → Target → Type 0
+Room k x y = (x.state * k + y.state ≤ 1073741824) × (x.weight * y.weight ≤ 1000000000000000)
+
 -- the lengths and the elements of a pair
 length-pair : (k : ℕ) (mu ml : Move) → length (pair k mu ml) ≡ length mu * length ml
 length-pair k mu ml = length_cross (over k) mu ml
@@ -92,27 +96,20 @@ module _ {A : ℕ → Bool} {U L : Meaning} {s u v : ℕ} (h : Split A U L s u v
 
     -- what stands over what fits, where the lower system has k states
     module _ {k : ℕ} (ek : k ≡ L.states) where
-      Room : Target → Target → Type 0
-      Room x y = (x.state * k + y.state ≤ 1073741824) × (x.weight * y.weight ≤ 1000000000000000)
-
-      room_of : (x y : Target) → Held U.states U.mass (Some x) → Held L.states L.mass (Some y) → Room x y
-      unfolding Room
+      room_of : (x y : Target) → Held U.states U.mass (Some x) → Held L.states L.mass (Some y) → Room k x y
       room_of x y hx hy =
           let d : x.state * L.states + y.state < U.states * L.states = digits_lt hx.0 hy.0 in
           let w : x.weight * y.weight ≤ U.mass * L.mass = mul-le-mul hx.1 hy.1 in
           let same = ap (λ (z : ℕ). x.state * z + y.state) ek in
           (omega (arith, h.limited.states_high), omega (arith, h.limited.mass_high))
 
-      pub room-shared : (i j e f : ℕ) {x y : Target} → Some x ≡ slice_get (get_or (U.moves u a) i []) j → Some y ≡ slice_get (get_or (L.moves v a) e []) f → (x.state * k + y.state ≤ 1073741824) × (x.weight * y.weight ≤ 1000000000000000)
-      unfolding Room
+      pub room-shared : (i j e f : ℕ) {x y : Target} → Some x ≡ slice_get (get_or (U.moves u a) i []) j → Some y ≡ slice_get (get_or (L.moves v a) e []) f → Room k x y
       room-shared i j e f {x} {y} ex ey = room_of x y (held-target U h.upper_ruled u a i j (Some x) ex) (held-target L h.lower_ruled v a e f (Some y) ey)
 
-      pub room-upper : (i j : ℕ) {w : ℕ} {x : Target} → Some x ≡ slice_get (get_or (U.moves u a) i []) j → w ≡ L.mass → (x.state * k + v ≤ 1073741824) × (x.weight * w ≤ 1000000000000000)
-      unfolding Room
+      pub room-upper : (i j : ℕ) {w : ℕ} {x : Target} → Some x ≡ slice_get (get_or (U.moves u a) i []) j → w ≡ L.mass → Room k x (record { state = v; weight = w })
       room-upper i j {w} {x} ex ew = room_of x (record { state = v; weight = w }) (held-target U h.upper_ruled u a i j (Some x) ex) (lower-inside, omega arith)
 
-      pub room-lower : (i j : ℕ) {w : ℕ} {y : Target} → Some y ≡ slice_get (get_or (L.moves v a) i []) j → w ≡ U.mass → (u * k + y.state ≤ 1073741824) × (w * y.weight ≤ 1000000000000000)
-      unfolding Room
+      pub room-lower : (i j : ℕ) {w : ℕ} {y : Target} → Some y ≡ slice_get (get_or (L.moves v a) i []) j → w ≡ U.mass → Room k (record { state = u; weight = w }) y
       room-lower i j {w} {y} ey ew = room_of (record { state = u; weight = w }) y (upper-inside, omega arith) (held-target L h.lower_ruled v a i j (Some y) ey)
 
     -- each move, by its number

@@ -2,6 +2,7 @@
 use Rattle.std.specs.Prelude.{◌≡◌, ℕ, zero, suc, ◌+◌, ◌<◌, ◌≤◌, max, true, false, ◌&&◌, ◌⊎◌, List, [], ◌∷◌, length, take, Some, None, Option, ◌==◌, ◌≢◌, nat_le, nat_lt, slice_index_or, refl}
 use Rattle.std.proofs.Common.{sym, ap, subst, ◌∙◌, inl, inr, arith, add-one}
 use Rattle.std.specs.List.{AllByRecursion}
+use Rattle.std.specs.Option.{option_or}
 use Rattle.std.proofs.ByRecursion.{All-from_get_or, all_kept_by, kept_by_passes}
 use Rattle.std.proofs.lemmas.List.{get_or_default, take_all}
 use Rattle.std.proofs.lemmas.Bool.{and_parts, eqb-true, ltb-true, leb-true, cond-true, cond-false, cases_lt, cases_Bool}
@@ -11,7 +12,7 @@ use Rattle.systems.specs.declared.fault.MountFault.{MountFault}
 use Rattle.systems.specs.declared.fault.MountFault.TheVariants.{Record, Weights}
 use Rattle.systems.specs.Meaning.{Between, total}
 use Rattle.systems.specs.Tables.{asks, asked, no_record, row, run, fits_alone, good_run, longest}
-use Rattle.systems.specs.Mounts.{or_else, row_fault, first_fault, sizes, mount_fault, blamed}
+use Rattle.systems.specs.Mounts.{row_fault, first_fault, sizes, mount_fault, blamed}
 use Rattle.systems.specs.Runs.{count_miss}
 
 -- a record that keeps the rules that ask for no other
@@ -76,20 +77,20 @@ module _ (rs : List MoveRecord) where
   pub few_all : (k a : ℕ) → length (asked k a rs) ≤ longest rs (length rs)
   few_all k a = subst (λ (xs : List MoveRecord). length (asked k a xs) ≤ longest rs (length rs)) (take_all (length rs) rs (omega arith)) (few_below k a (length rs) (omega arith))
 
-or_none : (x y : Option MountFault) → or_else x y ≡ None → (x ≡ None) × (y ≡ None)
+or_none : (x y : Option MountFault) → option_or x y ≡ None → (x ≡ None) × (y ≡ None)
 or_none None y e = (refl, e)
 or_none (Some f) y e = let z : ◌≡◌ {A = ℕ} 0 1 = cc in absurd (omega arith)
 
 module _ (n : ℕ) (rs : List MoveRecord) (ts : List Target) where
   pub none_more : (i : ℕ) → first_fault n rs ts i ≡ None → None ≡ row_fault n rs ts i → first_fault n rs ts (i + 1) ≡ None
-  none_more i p q = rw add-one (ap (λ (x : Option MountFault). or_else x (row_fault n rs ts i)) p ∙ sym q)
+  none_more i p q = rw add-one (ap (λ (x : Option MountFault). option_or x (row_fault n rs ts i)) p ∙ sym q)
 
   pub fault_stays : (f : MountFault) (i j : ℕ) → i ≤ j → first_fault n rs ts i ≡ Some f → first_fault n rs ts j ≡ Some f
   fault_stays f i zero h e = let q : i ≡ zero = omega arith in subst (λ (x : ℕ). first_fault n rs ts x ≡ Some f) q e
   fault_stays f i (suc j) h e = go (cases_lt i (suc j)) (fault_stays f i j)
     where
       go : (i < suc j) ⊎ (suc j ≤ i) → (i ≤ j → first_fault n rs ts i ≡ Some f → first_fault n rs ts j ≡ Some f) → first_fault n rs ts (suc j) ≡ Some f
-      go (inl l) ih = ap (λ (x : Option MountFault). or_else x (row_fault n rs ts j)) (ih (omega arith) e)
+      go (inl l) ih = ap (λ (x : Option MountFault). option_or x (row_fault n rs ts j)) (ih (omega arith) e)
       go (inr g) ih = let q : i ≡ suc j = omega arith in subst (λ (x : ℕ). first_fault n rs ts x ≡ Some f) q e
 
   -- a record is blamed for its own fault
@@ -109,7 +110,7 @@ module _ (n : ℕ) (rs : List MoveRecord) (ts : List Target) where
           absurd (omega arith)
 
   pub fault_first : (f : MountFault) (i j : ℕ) → i < j → first_fault n rs ts i ≡ None → Some f ≡ row_fault n rs ts i → first_fault n rs ts j ≡ blamed f
-  fault_first f i j l p q = fault_stays f (suc i) j l (ap (λ (x : Option MountFault). or_else x (row_fault n rs ts i)) p ∙ sym q) ∙ blame f i q
+  fault_first f i j l p q = fault_stays f (suc i) j l (ap (λ (x : Option MountFault). option_or x (row_fault n rs ts i)) p ∙ sym q) ∙ blame f i q
 
   none_below : (j i : ℕ) → i < j → first_fault n rs ts j ≡ None → row_fault n rs ts i ≡ None
   none_below zero i l e = absurd (omega arith)

@@ -16,7 +16,7 @@ pub enum AnySystem {
     Empty(Empty),
 }
 
-// Asks the system that it is, whichever kind that has.
+// Asks the system, whichever kind it is.
 macro_rules! ask {
     ($any:expr, $system:ident => $question:expr) => {
         match $any {

@@ -1,4 +1,5 @@
-// A system that is lent.
+// A system that is lent. As for an Rc, since one impl over Deref could not name its meaning: Deref says
+// what a pointer shows by a relation alone.
 ghost use Rattle.std.proofs.Common.{rules};
 
 use crate::system::{System, Target};

@@ -1,5 +1,5 @@
 // A component: the moves of two tables, grouped by state and action.
-ghost use Rattle.std.specs.Prelude.{◌≡◌, ℕ, ◌+◌, ◌*◌, ◌<◌, ◌≤◌, true, [], ◌∷◌, ◌++◌, map, length, get_or, replicate, is_ok, IfOk, if◌then◌else◌, None, Ok, Err, vec_items, vec_len, slice_index_or, slice_set};
+ghost use Rattle.std.specs.Prelude.{◌≡◌, ◌*◌, ◌<◌, ◌≤◌, true, map, length, All, IfOk, None, Ok, Err, vec_items};
 ghost use Rattle.systems.specs.Index.{index_meaning, good_index, listed, Grouped};
 ghost use Rattle.systems.specs.Meaning.{Between};
 ghost use Rattle.systems.specs.Mounts.{mount_fault, blamed};
@@ -34,7 +34,7 @@ fn grouped(
     states: u32,
     rows: &[MoveRecord],
 ) -> Result<Vec<Vec<MoveRecord>>, AllocError>
-    requires { (i : ℕ) → (d : MoveRecord) → i < length rows.now → ((get_or rows.now i d).state < states) × ((get_or rows.now i d).action < 32) }
+    requires { All (λ (r : MoveRecord). (r.state < states) × (r.action < 32)) rows.now }
     ensures { IfOk result (λ v. Grouped states rows.now (length rows.now) (map vec_items v.items)) }
 {
     let mut cells = Vec::new(heap);
@@ -53,7 +53,7 @@ impl Component {
         moves: &[MoveRecord],
         targets: &[Target],
     ) -> Result<Component, MountFault>
-        ensures { elim result [ Ok v ↦ (mount_fault states moves.now targets.now ≡ None) × (index_meaning v.states v.breadth (map vec_items v.cells.items) v.targets.items ≡ table_meaning states moves.now targets.now) | Err f ↦ mount_fault states moves.now targets.now ≡ blamed f ] }
+        ensures { elim result [ Ok v ↦ (mount_fault states moves.now targets.now ≡ None) × (⟦<Component as System>⟧.meaning v ≡ table_meaning states moves.now targets.now) | Err f ↦ mount_fault states moves.now targets.now ≡ blamed f ] }
     {
         let breadth = survey(states, moves, targets)?;
         let cells = grouped(heap, states, moves)?;

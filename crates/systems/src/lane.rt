@@ -29,7 +29,7 @@ impl Lane {
     // A lane for so many waiting jobs, with different actions to put and to take one; of 1,000 puts
     // `loss` are lost.
     pub fn new(capacity: u32, put: u32, take: u32, loss: u32) -> Result<Lane, Fault>
-        ensures { elim result [ Ok v ↦ (lane_numbers capacity put take loss ≡ true) × (lane_meaning v.capacity v.put v.take v.loss ≡ lane_meaning capacity put take loss) | Err e ↦ (lane_numbers capacity put take loss ≡ false) × (e ≡ Fault.Number) ] }
+        ensures { elim result [ Ok v ↦ (lane_numbers capacity put take loss ≡ true) × (⟦<Lane as System>⟧.meaning v ≡ lane_meaning capacity put take loss) | Err e ↦ (lane_numbers capacity put take loss ≡ false) × (e ≡ Fault.Number) ] }
     {
         if capacity < 1
             || capacity > MOST_WAITING

@@ -31,7 +31,7 @@ pub struct Pile<U: System, L: System> {
 impl<U: System, L: System> Pile<U, L> {
     // The pile of two systems, or both of them back with the reason why there is none.
     pub fn new(upper: U, lower: L, shared: ActionSet) -> Result<Pile<U, L>, (U, L, Fault)>
-        ensures { elim result [ Ok p ↦ (refusal (U.System.meaning upper) (L.System.meaning lower) ≡ None) × (pile (has p.shared) (U.System.meaning p.upper) (L.System.meaning p.lower) ≡ pile (has shared) (U.System.meaning upper) (L.System.meaning lower)) × (p.upper ≡ upper) × (p.lower ≡ lower) × (p.shared ≡ shared) | Err e ↦ (refusal (U.System.meaning upper) (L.System.meaning lower) ≡ Some e.2) × (e.0 ≡ upper) × (e.1 ≡ lower) ] }
+        ensures { elim result [ Ok p ↦ (refusal (U.System.meaning upper) (L.System.meaning lower) ≡ None) × (⟦<Pile<U, L> as System>⟧.meaning p ≡ pile (has shared) (U.System.meaning upper) (L.System.meaning lower)) × (p.upper ≡ upper) × (p.lower ≡ lower) × (p.shared ≡ shared) | Err e ↦ (refusal (U.System.meaning upper) (L.System.meaning lower) ≡ Some e.2) × (e.0 ≡ upper) × (e.1 ≡ lower) ] }
     {
         let states = upper.states() as u64 * lower.states() as u64;
         let breadth = upper.breadth() as u64 * lower.breadth() as u64;

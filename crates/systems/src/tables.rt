@@ -16,12 +16,12 @@ const MOST_RECORDS: usize = 4096;
 const MOST_LISTED: u32 = 64;
 
 // What the weights of each move of a component add up to.
-pub const MASS: u64 = 1000;
+pub(crate) const MASS: u64 = 1000;
 
 const CELLS: usize = MOST_STATES as usize * ACTIONS as usize;
 
 // The place of a state and an action among those of all states.
-pub fn cell(state: u32, action: u32) -> usize
+pub(crate) fn cell(state: u32, action: u32) -> usize
     ensures { result ≡ cell_of state action }
 {
     state as usize * ACTIONS as usize + action as usize
@@ -39,7 +39,7 @@ fn fits_alone(states: u32, places: usize, r: MoveRecord) -> bool
 }
 
 // The targets of a record.
-pub fn run_of(targets: &[Target], r: MoveRecord) -> &[Target]
+pub(crate) fn run_of(targets: &[Target], r: MoveRecord) -> &[Target]
     requires { r.first + r.count ≤ length targets.now }
     ensures { result.now ≡ take r.count (drop r.first targets.now) }
 {
@@ -110,7 +110,11 @@ fn walk(states: u32, rows: &[MoveRecord], targets: &[Target]) -> Result<u32, Mou
 }
 
 // The breadth of the component that two tables make, or why they make none.
-pub fn survey(states: u32, rows: &[MoveRecord], targets: &[Target]) -> Result<u32, MountFault>
+pub(crate) fn survey(
+    states: u32,
+    rows: &[MoveRecord],
+    targets: &[Target],
+) -> Result<u32, MountFault>
     ensures { elim result [ Ok b ↦ (mount_fault states rows.now targets.now ≡ None) × (b ≡ longest rows.now (length rows.now)) | Err f ↦ mount_fault states rows.now targets.now ≡ blamed f ] }
 {
     if states < 1

@@ -3,7 +3,7 @@ use Rattle.std.specs.List.{slice_get}
 use Rattle.systems.specs.Actions.{has}
 use Rattle.systems.specs.Meaning.{Move}
 use Rattle.systems.specs.Piled.{outside_moves}
-use Rattle.systems.proofs.PiledCode.{no_move, no_target, no_upper, target-shared, target-upper, target-lower, room-shared, room-upper, room-lower}
+use Rattle.systems.proofs.PiledCode.{no_move, no_upper, target-shared, target-upper, target-lower, room-shared, room-upper, room-lower}
 use Rattle.systems.proofs.pile.PileSystem.target.Goals as goal
 
 pub returns-in_err-u : goal.returns-in_err-u
@@ -13,9 +13,6 @@ returns-in_err-u g c =
 
 pub returns-then-low-eq0 : goal.returns-then-low-eq0
 returns-then-low-eq0 g c = sym (ap (λ (xs : Move). slice_get xs c.args.index) (no_move c.in_ok-u.ensures c.args.action c.args.mv c.if-contains.ensures c.moves-low.ensures c.if-low-eq0.true))
-
-pub returns-then-n-eq0 : goal.returns-then-n-eq0
-returns-then-n-eq0 g c = no_target c.in_ok-u.ensures c.args.action c.args.mv c.if-contains.ensures c.moves-low.ensures c.if-low-eq0.false c.targets-n.ensures c.args.index c.if-n-eq0.true
 
 pub returns-in_err-x : goal.returns-in_err-x
 returns-in_err-x g c =

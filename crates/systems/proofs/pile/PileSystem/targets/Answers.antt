@@ -1,8 +1,8 @@
-use Rattle.std.proofs.Common.{◌/◌, ◌%◌, List, [], length, get_or, sym, ap, arith}
+use Rattle.std.proofs.Common.{List, [], length, get_or, sym, ap}
 use Rattle.systems.specs.Meaning.{Move}
 use Rattle.systems.specs.Actions.{has}
 use Rattle.systems.specs.Piled.{outside_moves}
-use Rattle.systems.proofs.PiledCode.{no_move, targets_shared, targets_upper, targets_lower, short-shared}
+use Rattle.systems.proofs.PiledCode.{no_move, targets_shared, targets_upper, targets_lower}
 use Rattle.systems.proofs.pile.PileSystem.targets.Goals as goal
 
 pub returns-in_default : goal.returns-in_default
@@ -10,9 +10,6 @@ returns-in_default g c = sym (ap (λ (ms : List Move). length (get_or ms c.args.
 
 pub returns-then-low-eq0 : goal.returns-then-low-eq0
 returns-then-low-eq0 g c = sym (ap length (no_move c.in-Some.ensures c.args.action c.args.mv c.if-contains.ensures c.moves-low.ensures c.if-low-eq0.true))
-
-pub overflow_mul-result : goal.overflow_mul-result
-overflow_mul-result g c = omega (arith, short-shared c.in-Some.ensures c.args.action (c.args.mv / c.moves-low.result) (c.args.mv % c.moves-low.result) c.targets.ensures c.targets-then-contains.ensures)
 
 pub returns-then-contains : goal.returns-then-contains
 returns-then-contains g c = targets_shared c.in-Some.ensures c.args.action c.args.mv c.if-contains.ensures c.moves-low.ensures c.if-low-eq0.false c.targets.ensures c.targets-then-contains.ensures
