@@ -147,11 +147,6 @@ module _ (m : ℕ) (R : Meaning) where
   is_removable false true e = (cc, cc)
   is_removable false false e = (refl, refl)
 
-  pub not-removable : (l h : Bool) (why : Refusal) (rest : Result Standing Refusal) → ◌≡◌ {A = Result (Unit {0}) Refusal} (Err why) (cond l (Err Large) (cond h (Err Heavy) (Ok tt))) → Err why ≡ cond l (Err Large) (cond h (Err Heavy) rest)
-  not-removable true h why rest e = cc
-  not-removable false true why rest e = cc
-  not-removable false false why rest e = cc
-
 -- what the tests tell, where u is what is used of the tables t
 module _ (R : Meaning) (f : Fills) (root m : ℕ) (t u : Tables) (front : Front f t u) (held : stands_in f root m (contents t) ≡ true) (ok : Ok tt ≡ removable m R) where
   pub dividable : AllRight (take f.nodes t.nodes.now) (take f.terms t.terms.now) (take f.alternatives t.alternatives.now) m → Dividable R u root

@@ -89,10 +89,6 @@ pub record LightTarget (x : Plan) (t : Target) : Type 0 where
   pub near : t.state < 4096
   pub light : t.weight ≤ x.mass
 
--- what a buffer of targets has where none is read
-abbrev pub no_target : Target
-no_target = record { state = 0; weight = 0 }
-
 -- a node with its parts renumbered
 abbrev pub moved_state : (ℕ → ℕ) → StateNode → StateNode
 moved_state f sn.TheVariants.Yes = sn.TheVariants.Yes

@@ -8,7 +8,7 @@ ghost use Rattle.formulas.specs.Layout.{fills};
 ghost use Rattle.formulas.specs.Stores.{store};
 ghost use Rattle.formulas.specs.Tables.{slots, fits, laid};
 ghost use Rattle.quotient.specs.Layings.{extended, filled, SameTables, lay, lay_all};
-ghost use Rattle.quotient.specs.Plans.{plan_nodes, place_in, Fit, LightTerm, LightTarget, plan_quotient, no_target, moved_state, moved_dist, moved, PlainState, PlainDist, Plain, node_width, node_line, node_lines, term_at, sum_at, step_node, sum_node};
+ghost use Rattle.quotient.specs.Plans.{plan_nodes, place_in, Fit, LightTerm, LightTarget, plan_quotient, moved_state, moved_dist, moved, PlainState, PlainDist, Plain, node_width, node_line, node_lines, term_at, sum_at, step_node, sum_node};
 ghost use Rattle.quotient.specs.Quotient.{moves_of};
 
 use crate::plan::{ACTIONS, Division};
@@ -240,17 +240,6 @@ impl<'a, S: System> Division<'a, S> {
         }
     }
 
-    // The target of a number that there is.
-    fn target_at(&self, state: u32, action: u32, number: u32, index: u32) -> Target
-        requires { index < length (slice_index_or ((S.meaning self.now.system.now).moves state action) number []) }
-        ensures { result ≡ slice_index_or (slice_index_or ((S.meaning self.now.system.now).moves state action) number []) index no_target }
-    {
-        match self.system.target(state, action, number, index) {
-            Some(t) => t,
-            None => unreachable!(),
-        }
-    }
-
     // Reads the targets of a move to the front of the buffer, and answers them.
     fn read_targets<'b>(
         &self,
@@ -265,7 +254,7 @@ impl<'a, S: System> Division<'a, S> {
     {
         let count = self.system.targets(state, action, number);
         for index in 0..count {
-            buffer[index as usize] = self.target_at(state, action, number, index);
+            buffer[index as usize] = self.system.target(state, action, number, index).unwrap();
         }
         &buffer[0..count as usize]
     }

@@ -4,8 +4,9 @@ use Rattle.std.proofs.ByRecursion.{All-get_or}
 use Rattle.formulas.specs.declared.node.Term.{Term}
 use Rattle.formulas.specs.Append.{table}
 use Rattle.quotient.specs.Layings.{extended}
-use Rattle.quotient.specs.Plans.{LightTarget, no_target, term_at}
+use Rattle.quotient.specs.Plans.{LightTarget, term_at}
 use Rattle.quotient.proofs.Laying.{put_more}
+use Rattle.quotient.proofs.Dividing.{no_target}
 use Rattle.quotient.proofs.plan.Division.put_targets.Goals as goal
 
 pub overflow_mul-term : goal.overflow_mul-term

@@ -1,7 +1,8 @@
-use Rattle.std.proofs.Common.{◌<◌, [], ◌∷◌, ◌++◌, length, get_or, sym, refl, ◌∙◌, ap₂, arith}
+use Rattle.std.proofs.Common.{◌≡◌, ◌<◌, [], ◌∷◌, ◌++◌, length, get_or, sym, refl, ◌∙◌, ap₂, arith}
 use Rattle.std.proofs.lemmas.List.{take_more, take_more_set}
-use Rattle.quotient.specs.Plans.{no_target}
 use Rattle.quotient.proofs.Rules.{move-good}
+use Rattle.std.proofs.lemmas.Option.{slice_get-get_or}
+use Rattle.quotient.proofs.Dividing.{no_target}
 use Rattle.quotient.proofs.plan.Division.read_targets.Goals as goal
 
 pub loop-index-init : goal.loop-index-init
@@ -15,4 +16,6 @@ loop-index-preserved g c =
     let i = c.loop-index.index in
     let within : i < length mv = omega (arith, c.targets-count.ensures, c.loop-index-test.true) in
     let room : i < length c.loop-index.buffer = omega (arith, good.short, c.args.self.now.planned.narrow, c.requires.room, c.loop-index.auto.buffer) in
-    take_more_set c.loop-index.buffer i _ room ∙ ap₂ (λ l t. l ++ (t ∷ [])) c.loop-index.invariant c.target_at.ensures ∙ sym (take_more mv i no_target within)
+    let there = slice_get-get_or mv i no_target within in
+    let is : c.unwrap.result ≡ get_or mv i no_target = cc (c.target.ensures, c.unwrap.ensures) in
+    take_more_set c.loop-index.buffer i _ room ∙ ap₂ (λ l t. l ++ (t ∷ [])) c.loop-index.invariant is ∙ sym (take_more mv i no_target within)
