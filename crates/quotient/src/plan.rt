@@ -46,6 +46,7 @@ pub(crate) fn fill_firsts<S: System>(system: &S, firsts: &mut [u32]) -> u32
 {
     let n = system.states();
     let mut next = n;
+    // By index: of what is written through `iter_mut` a proof knows the length alone.
     for i in 0..n * ACTIONS {
         firsts[i as usize] = next;
         next += system.moves(i / ACTIONS, i % ACTIONS);

@@ -246,10 +246,9 @@ impl<'a, S: System> Division<'a, S> {
         state: u32,
         action: u32,
         number: u32,
-        buffer: &'b mut [Target],
+        buffer: &'b mut [Target; MOST_TARGETS],
     ) -> &'b [Target]
         requires inside { number < length ((S.meaning self.now.system.now).moves state action) }
-        requires room { 4096 ≤ length buffer.old }
         ensures { result.now ≡ slice_index_or ((S.meaning self.now.system.now).moves state action) number [] }
     {
         let count = self.system.targets(state, action, number);
@@ -266,12 +265,11 @@ impl<'a, S: System> Division<'a, S> {
         state: u32,
         action: u32,
         number: u32,
-        buffer: &mut [Target],
+        buffer: &mut [Target; MOST_TARGETS],
         out: &mut Lists,
     )
         requires inside { number < length ((S.meaning self.now.system.now).moves state action) }
         requires fit { Fit self.now.plan (sum_node sum) }
-        requires room { 4096 ≤ length buffer.old }
         ensures same { SameTables out.old out.new }
         ensures wrote { filled out.new ≡ lay (filled out.old) (sum_at self.now.plan sum (slice_index_or ((S.meaning self.now.system.now).moves state action) number [])) }
     {
@@ -280,9 +278,15 @@ impl<'a, S: System> Division<'a, S> {
     }
 
     // Writes the lines of a sum at the moves of a state on an action.
-    fn put_sums_on(&self, sum: Sum, state: u32, action: u32, buffer: &mut [Target], out: &mut Lists)
+    fn put_sums_on(
+        &self,
+        sum: Sum,
+        state: u32,
+        action: u32,
+        buffer: &mut [Target; MOST_TARGETS],
+        out: &mut Lists,
+    )
         requires fit { Fit self.now.plan (sum_node sum) }
-        requires room { 4096 ≤ length buffer.old }
         ensures same { SameTables out.old out.new }
         ensures wrote { filled out.new ≡ lay_all (filled out.old) (map (sum_at self.now.plan sum) ((S.meaning self.now.system.now).moves state action)) }
     {
@@ -292,9 +296,14 @@ impl<'a, S: System> Division<'a, S> {
     }
 
     // Writes its lines at the moves of a state.
-    fn put_sums_from(&self, sum: Sum, state: u32, buffer: &mut [Target], out: &mut Lists)
+    fn put_sums_from(
+        &self,
+        sum: Sum,
+        state: u32,
+        buffer: &mut [Target; MOST_TARGETS],
+        out: &mut Lists,
+    )
         requires fit { Fit self.now.plan (sum_node sum) }
-        requires room { 4096 ≤ length buffer.old }
         ensures same { SameTables out.old out.new }
         ensures wrote { filled out.new ≡ lay_all (filled out.old) (map (sum_at self.now.plan sum) (moves_of (S.meaning self.now.system.now) state)) }
     {
@@ -304,9 +313,8 @@ impl<'a, S: System> Division<'a, S> {
     }
 
     // Writes its lines at all moves.
-    fn put_sums_along(&self, sum: Sum, buffer: &mut [Target], out: &mut Lists)
+    fn put_sums_along(&self, sum: Sum, buffer: &mut [Target; MOST_TARGETS], out: &mut Lists)
         requires fit { Fit self.now.plan (sum_node sum) }
-        requires room { 4096 ≤ length buffer.old }
         ensures same { SameTables out.old out.new }
         ensures wrote { filled out.new ≡ lay_all (filled out.old) (map (sum_at self.now.plan sum) (flat_map (moves_of (S.meaning self.now.system.now)) (range_with_len 0 (S.meaning self.now.system.now).states))) }
     {
@@ -316,9 +324,8 @@ impl<'a, S: System> Division<'a, S> {
     }
 
     // Writes its lines at all rows.
-    fn put_sums(&self, sum: Sum, buffer: &mut [Target], out: &mut Lists)
+    fn put_sums(&self, sum: Sum, buffer: &mut [Target; MOST_TARGETS], out: &mut Lists)
         requires fit { Fit self.now.plan (sum_node sum) }
-        requires room { 4096 ≤ length buffer.old }
         ensures same { SameTables out.old out.new }
         ensures wrote { filled out.new ≡ lay_all (filled out.old) (node_lines (S.meaning self.now.system.now) self.now.plan (sum_node sum)) }
     {
@@ -399,9 +406,8 @@ impl<'a, S: System> Division<'a, S> {
     }
 
     // Writes the lines of a distribution node.
-    fn put_dist(&self, node: DistNode, buffer: &mut [Target], out: &mut Lists)
+    fn put_dist(&self, node: DistNode, buffer: &mut [Target; MOST_TARGETS], out: &mut Lists)
         requires fit { Fit self.now.plan (Node.Dist node) }
-        requires room { 4096 ≤ length buffer.old }
         ensures same { SameTables out.old out.new }
         ensures wrote { filled out.new ≡ lay_all (filled out.old) (node_lines (S.meaning self.now.system.now) self.now.plan (Node.Dist node)) }
     {
@@ -414,9 +420,8 @@ impl<'a, S: System> Division<'a, S> {
     }
 
     // Writes the lines of a node.
-    fn put_node(&self, node: Node, buffer: &mut [Target], out: &mut Lists)
+    fn put_node(&self, node: Node, buffer: &mut [Target; MOST_TARGETS], out: &mut Lists)
         requires fit { Fit self.now.plan node }
-        requires room { 4096 ≤ length buffer.old }
         ensures same { SameTables out.old out.new }
         ensures wrote { filled out.new ≡ lay_all (filled out.old) (node_lines (S.meaning self.now.system.now) self.now.plan node) }
     {
@@ -427,9 +432,8 @@ impl<'a, S: System> Division<'a, S> {
     }
 
     // Writes the lines of all nodes, in their order.
-    fn put_nodes(&self, buffer: &mut [Target], out: &mut Lists)
+    fn put_nodes(&self, buffer: &mut [Target; MOST_TARGETS], out: &mut Lists)
         requires fit { (i : ℕ) (d : Node) → i < length (plan_nodes self.now.plan) → Fit self.now.plan (slice_index_or (plan_nodes self.now.plan) i d) }
-        requires room { 4096 ≤ length buffer.old }
         ensures same { SameTables out.old out.new }
         ensures wrote { filled out.new ≡ lay_all (filled out.old) (plan_quotient (S.meaning self.now.system.now) self.now.plan) }
     {

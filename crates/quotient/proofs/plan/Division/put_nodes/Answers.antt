@@ -1,4 +1,4 @@
-use Rattle.std.proofs.Common.{refl, ap, ◌∙◌, arith}
+use Rattle.std.proofs.Common.{refl, ap, ◌∙◌}
 use Rattle.quotient.specs.Layings.{filled, lay_all}
 use Rattle.quotient.specs.Plans.{plan_nodes, node_lines}
 use Rattle.quotient.proofs.Planning.{no_node}
@@ -10,7 +10,7 @@ pub loop-node-init : goal.loop-node-init
 loop-node-init g c = record { same = ((refl, refl), (refl, refl), (refl, refl)); wrote = refl }
 
 pub put_node-requires : goal.put_node-requires
-put_node-requires g c = record { fit = c.requires.fit c.loop-node.node-index no_node c.loop-node-test.true; room = omega (arith, c.requires.room, c.loop-node.auto.buffer) }
+put_node-requires g c = record { fit = c.requires.fit c.loop-node.node-index no_node c.loop-node-test.true }
 
 pub loop-node-preserved : goal.loop-node-preserved
 loop-node-preserved g c =

@@ -10,7 +10,7 @@ pub loop-p-init : goal.loop-p-init
 loop-p-init g c = record { same = ((refl, refl), (refl, refl), (refl, refl)); wrote = refl }
 
 pub put_sums_from-requires : goal.put_sums_from-requires
-put_sums_from-requires g c = record { fit = c.requires.fit; room = omega (arith, c.requires.room, c.loop-p.auto.buffer) }
+put_sums_from-requires g c = record { fit = c.requires.fit }
 
 pub loop-p-preserved : goal.loop-p-preserved
 loop-p-preserved g c =

@@ -9,7 +9,7 @@ pub loop-action-init : goal.loop-action-init
 loop-action-init g c = record { same = ((refl, refl), (refl, refl), (refl, refl)); wrote = refl }
 
 pub put_sums_on-requires : goal.put_sums_on-requires
-put_sums_on-requires g c = record { fit = c.requires.fit; room = omega (arith, c.requires.room, c.loop-action.auto.buffer) }
+put_sums_on-requires g c = record { fit = c.requires.fit }
 
 pub loop-action-preserved : goal.loop-action-preserved
 loop-action-preserved g c =

@@ -9,7 +9,7 @@ pub loop-k-init : goal.loop-k-init
 loop-k-init g c = record { same = ((refl, refl), (refl, refl), (refl, refl)); wrote = refl }
 
 pub put_sum_along-requires : goal.put_sum_along-requires
-put_sum_along-requires g c = record { inside = omega (arith, c.moves-k-end.ensures, c.loop-k-test.true); fit = c.requires.fit; room = omega (arith, c.requires.room, c.loop-k.auto.buffer) }
+put_sum_along-requires g c = record { inside = omega (arith, c.moves-k-end.ensures, c.loop-k-test.true); fit = c.requires.fit }
 
 pub loop-k-preserved : goal.loop-k-preserved
 loop-k-preserved g c =
