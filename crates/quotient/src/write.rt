@@ -7,8 +7,8 @@ ghost use Rattle.formulas.specs.Append.{table};
 ghost use Rattle.formulas.specs.Layout.{fills};
 ghost use Rattle.formulas.specs.Stores.{store};
 ghost use Rattle.formulas.specs.Tables.{slots, fits, laid};
-ghost use Rattle.quotient.specs.Layings.{extended, filled, SameTables, lay, lay_all};
-ghost use Rattle.quotient.specs.Plans.{plan_nodes, place_in, Fit, LightTerm, LightTarget, plan_quotient, moved_state, moved_dist, moved, PlainState, PlainDist, Plain, node_width, node_line, node_lines, term_at, sum_at, step_node, sum_node};
+ghost use Rattle.quotient.specs.Layings.{extended, filled, SameSlots, SameTables, lay, lay_all};
+ghost use Rattle.quotient.specs.Plans.{plan_nodes, place_in, AllInside, Fit, AllFit, LightTerm, LightTarget, plan_quotient, moved_state, moved_dist, moved, PlainState, PlainDist, Plain, node_width, node_line, node_lines, term_at, sum_at, step_node, sum_node};
 ghost use Rattle.quotient.specs.Quotient.{moves_of};
 
 use crate::plan::{ACTIONS, Division};
@@ -52,9 +52,9 @@ pub(crate) struct Lists<'i, 'j, 'k, 'n, 't, 'a> {
 impl<'a, S: System> Division<'a, S> {
     // Appends the lines of the parts at the state or row `p`.
     fn put_places(&self, parts: &[u32], p: u32, out: &mut AppendList<u32>)
-        requires inside { AllByRecursion (λ d. d < length (plan_nodes self.now.plan)) parts.now }
+        requires inside { AllInside self.now.plan parts.now }
         requires small { p ≤ 1073741824 }
-        ensures same { out.new.slots.ghost_name ≡ out.old.slots.ghost_name }
+        ensures same { SameSlots out.old out.new }
         ensures wrote { table out.new ≡ extended (table out.old) (map (λ d. place_in self.now.plan d p) parts.now) }
     {
         for d in parts {
@@ -66,7 +66,7 @@ impl<'a, S: System> Division<'a, S> {
     fn put_rows(&self, d: u32, rows: Run, out: &mut AppendList<u32>)
         requires inside { d < length (plan_nodes self.now.plan) }
         requires small { rows.first + rows.count ≤ 1073741824 }
-        ensures same { out.new.slots.ghost_name ≡ out.old.slots.ghost_name }
+        ensures same { SameSlots out.old out.new }
         ensures wrote { table out.new ≡ extended (table out.old) (map (place_in self.now.plan d) (range_with_len rows.first rows.count)) }
     {
         let before = self.offset(d);
@@ -77,9 +77,9 @@ impl<'a, S: System> Division<'a, S> {
 
     // Appends the lines of the parts at a run of rows.
     fn put_crossed(&self, parts: &[u32], rows: Run, out: &mut AppendList<u32>)
-        requires inside { AllByRecursion (λ d. d < length (plan_nodes self.now.plan)) parts.now }
+        requires inside { AllInside self.now.plan parts.now }
         requires small { rows.first + rows.count ≤ 1073741824 }
-        ensures same { out.new.slots.ghost_name ≡ out.old.slots.ghost_name }
+        ensures same { SameSlots out.old out.new }
         ensures wrote { table out.new ≡ extended (table out.old) (cross (place_in self.now.plan) parts.now (range_with_len rows.first rows.count)) }
     {
         for d in parts {
@@ -96,10 +96,10 @@ impl<'a, S: System> Division<'a, S> {
         rows: Run,
         out: &mut AppendList<u32>,
     )
-        requires inside { AllByRecursion (λ d. d < length (plan_nodes self.now.plan)) parts.now }
+        requires inside { AllInside self.now.plan parts.now }
         requires point { p ≤ 1073741824 }
         requires small { rows.first + rows.count ≤ 1073741824 }
-        ensures same { out.new.slots.ghost_name ≡ out.old.slots.ghost_name }
+        ensures same { SameSlots out.old out.new }
         ensures wrote { table out.new ≡ extended (table out.old) (if shared then cross (place_in self.now.plan) parts.now (range_with_len rows.first rows.count) else map (λ d. place_in self.now.plan d p) parts.now) }
     {
         if shared {
@@ -119,11 +119,11 @@ impl<'a, S: System> Division<'a, S> {
         rows: Run,
         out: &mut AppendList<u32>,
     )
-        requires inside { AllByRecursion (λ d. d < length (plan_nodes self.now.plan)) parts.now }
-        requires heres { AllByRecursion (λ d. d < length (plan_nodes self.now.plan)) heres.now }
+        requires inside { AllInside self.now.plan parts.now }
+        requires heres { AllInside self.now.plan heres.now }
         requires point { p ≤ 1073741824 }
         requires small { rows.first + rows.count ≤ 1073741824 }
-        ensures same { out.new.slots.ghost_name ≡ out.old.slots.ghost_name }
+        ensures same { SameSlots out.old out.new }
         ensures wrote { table out.new ≡ extended (table out.old) (if shared then map (λ d. place_in self.now.plan d p) heres.now else cross (place_in self.now.plan) parts.now (range_with_len rows.first rows.count) ++ map (λ d. place_in self.now.plan d p) heres.now) }
     {
         if shared {
@@ -181,7 +181,7 @@ impl<'a, S: System> Division<'a, S> {
     fn put_targets(&self, targets: &[Target], term: Term, out: &mut AppendList<Term>)
         requires targets { AllByRecursion (LightTarget self.now.plan) targets.now }
         requires term { LightTerm self.now.plan term }
-        ensures same { out.new.slots.ghost_name ≡ out.old.slots.ghost_name }
+        ensures same { SameSlots out.old out.new }
         ensures wrote { table out.new ≡ extended (table out.old) (map (term_at self.now.plan term) targets.now) }
     {
         let before = self.offset(term.node);
@@ -197,7 +197,7 @@ impl<'a, S: System> Division<'a, S> {
     fn put_terms(&self, targets: &[Target], parts: &[Term], out: &mut AppendList<Term>)
         requires targets { AllByRecursion (LightTarget self.now.plan) targets.now }
         requires terms { AllByRecursion (LightTerm self.now.plan) parts.now }
-        ensures same { out.new.slots.ghost_name ≡ out.old.slots.ghost_name }
+        ensures same { SameSlots out.old out.new }
         ensures wrote { table out.new ≡ extended (table out.old) (cross (term_at self.now.plan) parts.now targets.now) }
     {
         for t in parts {
@@ -433,7 +433,7 @@ impl<'a, S: System> Division<'a, S> {
 
     // Writes the lines of all nodes, in their order.
     fn put_nodes(&self, buffer: &mut [Target; MOST_TARGETS], out: &mut Lists)
-        requires fit { (i : ℕ) (d : Node) → i < length (plan_nodes self.now.plan) → Fit self.now.plan (slice_index_or (plan_nodes self.now.plan) i d) }
+        requires fit { AllFit self.now.plan }
         ensures same { SameTables out.old out.new }
         ensures wrote { filled out.new ≡ lay_all (filled out.old) (plan_quotient (S.meaning self.now.system.now) self.now.plan) }
     {
@@ -449,8 +449,8 @@ impl<'a, S: System> Division<'a, S> {
         terms: &mut AppendList<Term>,
         alternatives: &mut AppendList<u32>,
     )
-        requires fit { (i : ℕ) (d : Node) → i < length (plan_nodes self.now.plan) → Fit self.now.plan (slice_index_or (plan_nodes self.now.plan) i d) }
-        ensures same { (nodes.new.slots.ghost_name ≡ nodes.old.slots.ghost_name) × (terms.new.slots.ghost_name ≡ terms.old.slots.ghost_name) × (alternatives.new.slots.ghost_name ≡ alternatives.old.slots.ghost_name) }
+        requires fit { AllFit self.now.plan }
+        ensures same { SameSlots nodes.old nodes.new × SameSlots terms.old terms.new × SameSlots alternatives.old alternatives.new }
         ensures wrote { store nodes.new terms.new alternatives.new ≡ lay_all (store nodes.old terms.old alternatives.old) (plan_quotient (S.meaning self.now.system.now) self.now.plan) }
     {
         let mut buffer = [NO_TARGET; MOST_TARGETS];
@@ -464,7 +464,7 @@ impl<'a, S: System> Division<'a, S> {
 
     // Writes the quotient to the fronts of three tables that have the room.
     pub(crate) fn write(&self, nodes: &mut [Node], terms: &mut [Term], alternatives: &mut [u32])
-        requires fit { (i : ℕ) (d : Node) → i < length (plan_nodes self.now.plan) → Fit self.now.plan (slice_index_or (plan_nodes self.now.plan) i d) }
+        requires fit { AllFit self.now.plan }
         requires room { fits (fills (plan_quotient (S.meaning self.now.system.now) self.now.plan)) (slots nodes.old terms.old alternatives.old) ≡ true }
         ensures { slots nodes.new terms.new alternatives.new ≡ laid (plan_quotient (S.meaning self.now.system.now) self.now.plan) (slots nodes.old terms.old alternatives.old) }
     {
