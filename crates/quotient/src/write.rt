@@ -70,8 +70,8 @@ impl<'a, S: System> Division<'a, S> {
         ensures wrote { table out.new ≡ extended (table out.old) (map (place_in self.now.plan d) (range_with_len rows.first rows.count)) }
     {
         let before = self.offset(d);
-        for k in 0..rows.count {
-            out.put((before + rows.first as u64 + k as u64) as u32);
+        for row in rows.first..rows.first + rows.count {
+            out.put((before + row as u64) as u32);
         }
     }
 

@@ -1,7 +1,6 @@
-use Rattle.std.proofs.Common.{sym, refl, ap, ◌∙◌}
+use Rattle.std.proofs.Common.{sym, ◌∙◌}
 use Rattle.formulas.specs.Tables.{held}
-use Rattle.quotient.specs.Divisions.{after}
-use Rattle.quotient.proofs.Rooms.{dividable, remainder_is, passed}
+use Rattle.quotient.proofs.Rooms.{passed}
 use Rattle.quotient.proofs.divide.divide.Goals as goal
 
 pub returns-clause-value : goal.returns-clause-value

@@ -1,9 +1,9 @@
-use Rattle.std.proofs.Common.{◌*◌, length, ap, ◌∙◌, arith}
+use Rattle.std.proofs.Common.{◌*◌, ap, ◌∙◌, arith}
 use Rattle.std.proofs.lemmas.Result.{err_from_is_err_and}
 use Rattle.formulas.specs.Tables.{held}
 use Rattle.quotient.specs.Divisions.{whole_remainder}
 use Rattle.quotient.proofs.Dividing.{place_at}
-use Rattle.quotient.proofs.Rooms.{too-many-nodes, short-nodes, short-terms, short-alternatives, small, all_fit, found, too_many, node-count, term_count, alternative-count, root-inside}
+use Rattle.quotient.proofs.Rooms.{too-many-nodes, short-nodes, short-terms, short-alternatives, all_fit, found, too_many, node-count, term_count, alternative-count}
 use Rattle.quotient.proofs.divide.divide_whole.Goals as goal
 
 pub returns-then-used-gt-MOST_NODES-clause-value : goal.returns-then-used-gt-MOST_NODES-clause-value

@@ -1,6 +1,4 @@
-use Rattle.std.proofs.Common.{◌≡◌, ◌+◌, sum_by, ap, ◌∙◌, arith}
-use Rattle.std.specs.List.{range_with_len}
-use Rattle.quotient.specs.Plans.{topped, targets_from}
+use Rattle.quotient.specs.Plans.{targets_from}
 use Rattle.quotient.proofs.Needing.{topped-next}
 use Rattle.quotient.proofs.need.all_targets.Goals as goal
 

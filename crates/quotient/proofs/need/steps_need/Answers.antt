@@ -1,5 +1,4 @@
-use Rattle.std.proofs.Common.{◌≡◌, ℕ, ◌+◌, length, sum_by, refl, ap, ◌∙◌, zero-add, arith}
-use Rattle.std.specs.List.{range_with_len}
+use Rattle.std.proofs.Common.{ℕ, length, ap, ◌∙◌}
 use Rattle.quotient.specs.Plans.{topped, step_need}
 use Rattle.quotient.proofs.Needing.{topped-next}
 use Rattle.quotient.proofs.need.steps_need.Goals as goal

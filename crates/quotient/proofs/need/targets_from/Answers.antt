@@ -1,6 +1,4 @@
-use Rattle.std.proofs.Common.{◌≡◌, ◌+◌, sum_by, refl, ap, ◌∙◌, zero-add, arith}
-use Rattle.std.specs.List.{range_with_len}
-use Rattle.quotient.specs.Plans.{topped, targets_on}
+use Rattle.quotient.specs.Plans.{targets_on}
 use Rattle.quotient.proofs.Needing.{topped-next}
 use Rattle.quotient.proofs.need.targets_from.Goals as goal
 

@@ -1,11 +1,8 @@
-use Rattle.std.proofs.Common.{◌<◌, length, sym, refl, ap, ◌∙◌}
+use Rattle.std.proofs.Common.{sym, refl, ap, ◌∙◌}
 use Rattle.std.specs.List.{range_with_len}
-use Rattle.std.proofs.lemmas.List.{take_all}
-use Rattle.std.proofs.ByRecursion.{All-get_or}
-use Rattle.systems.specs.Piles.{cross}
 use Rattle.formulas.specs.Append.{table}
 use Rattle.quotient.specs.Layings.{extended}
-use Rattle.quotient.specs.Plans.{plan_nodes, place_in}
+use Rattle.quotient.specs.Plans.{place_in}
 use Rattle.quotient.proofs.Countings.{cross-none}
 use Rattle.quotient.proofs.Laying.{put-cross}
 use Rattle.quotient.proofs.plan.Division.put_crossed.Goals as goal

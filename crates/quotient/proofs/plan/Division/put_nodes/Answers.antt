@@ -1,8 +1,5 @@
-use Rattle.std.proofs.Common.{refl, ap, ◌∙◌}
+use Rattle.std.proofs.Common.{ap, ◌∙◌}
 use Rattle.quotient.specs.Layings.{filled, lay_all}
-use Rattle.quotient.specs.Plans.{plan_nodes, node_lines}
-use Rattle.quotient.proofs.Planning.{no_node}
-use Rattle.quotient.proofs.Laying.{lay-lines, same-on}
 use Rattle.quotient.proofs.Dividing.{quotient_by_nodes}
 use Rattle.quotient.proofs.plan.Division.put_nodes.Goals as goal
 
