@@ -3,7 +3,7 @@ use Rattle.std.proofs.Common.{◌≡◌, ℕ, ◌+◌, ◌*◌, ◌/◌, ◌%◌
 use mathlib.Core.Path.{fun_ext}
 use Rattle.std.specs.List.{range_with_len, flat_map, AllByRecursion}
 use Rattle.std.proofs.lemmas.List.{take_all, take-map, map-append}
-use Rattle.std.proofs.ByRecursion.{All-get_or, All-from_get_or, All-weaker}
+use Rattle.std.proofs.ByRecursion.{All-get_or, All-from_get_or}
 use Rattle.std.proofs.lemmas.Simd.{map-map}
 use Rattle.std.proofs.lemmas.List.Sums.{sum_by-cons, get_or-le-sum_by}
 use Rattle.systems.specs.declared.system.Target.{Target}
@@ -16,7 +16,6 @@ use Rattle.formulas.specs.declared.node.StateNode.{StateNode}
 use Rattle.formulas.specs.declared.node.StateNode as sn
 use Rattle.formulas.specs.declared.node.DistNode.{DistNode}
 use Rattle.formulas.specs.declared.node.DistNode as dn
-use Rattle.formulas.specs.declared.node.Run.{Run}
 use Rattle.formulas.specs.declared.node.Term.{Term}
 use Rattle.formulas.specs.Append.{Table}
 use Rattle.formulas.specs.Lines.{Line, step, sum, sort, line, lines, entries}
@@ -26,29 +25,10 @@ use Rattle.quotient.specs.declared.write.Sum.{Sum}
 use Rattle.quotient.specs.Layings.{appended, lay}
 use Rattle.quotient.proofs.Laying.{stored}
 use Rattle.quotient.specs.Quotient.{moves_of, rows, row, first_row, move_rows, width, place, new_step, new_term, new_line, new_lines}
-use Rattle.quotient.specs.Plans.{node_width, width_before, plan_nodes, plan_lines, place_in, Planned, moved, Fit, LightTerm, LightTarget, PlainState, PlainDist, Plain, node_line, node_lines, plan_quotient, sum_at, step_node, sum_node}
+use Rattle.quotient.specs.Plans.{node_width, width_before, plan_nodes, plan_lines, place_in, Planned, moved, Fit, LightTerm, LightTarget, Plain, node_line, node_lines, plan_quotient, sum_at, step_node, sum_node}
 use Rattle.quotient.proofs.Lists.{looked_up}
 use Rattle.quotient.proofs.Places.{rows-within}
 use Rattle.quotient.proofs.Rules.{GoodIn}
-
--- a node that fits and is no step, or no sum, is plain
-pub plain-state : (x : Plan) (n : StateNode) → Fit x (State n) → ((a : ℕ) (ms hs : Run) → n ≡ sn.TheVariants.Step a ms hs → ⊥) → PlainState (length (plan_nodes x)) n
-plain-state x sn.TheVariants.Yes fit no_step = tt
-plain-state x sn.TheVariants.No fit no_step = tt
-plain-state x (sn.TheVariants.And i j) fit no_step = (omega (arith, fit.right.0, fit.inside), omega (arith, fit.right.1, fit.inside))
-plain-state x (sn.TheVariants.Not i) fit no_step = omega (arith, fit.right, fit.inside)
-plain-state x (sn.TheVariants.Step a ms hs) fit no_step = absurd (no_step a ms hs refl)
-
-pub plain-dist : (x : Plan) (n : DistNode) → Fit x (Dist n) → ((t : ℕ) (r : Run) → n ≡ dn.TheVariants.Sum t r → ⊥) → PlainDist (length (plan_nodes x)) n
-plain-dist x dn.TheVariants.Yes fit no-sum = tt
-plain-dist x dn.TheVariants.No fit no-sum = tt
-plain-dist x (dn.TheVariants.And i j) fit no-sum = (omega (arith, fit.right.0, fit.inside), omega (arith, fit.right.1, fit.inside))
-plain-dist x (dn.TheVariants.Not i) fit no-sum = omega (arith, fit.right, fit.inside)
-plain-dist x (dn.TheVariants.Sum t r) fit no-sum = absurd (no-sum t r refl)
-
--- the parts of a node that fits are in the plan
-pub all_inside : (x : Plan) (n : Node) (fit : Fit x n) (ds : List ℕ) → AllByRecursion (λ d. d < fit.index) ds → AllByRecursion (λ d. d < length (plan_nodes x)) ds
-all_inside x n fit ds h = All-weaker (λ d. d < fit.index) (λ d. d < length (plan_nodes x)) (λ d k. omega (arith, fit.inside)) ds h
 
 -- a number up to 1,000 × m, times the mass
 weighed : (m M c : ℕ) → m * M ≤ 1000000000000000 → c ≤ 1000 * m → c * M ≤ 1000000000000000000
