@@ -19,7 +19,7 @@ use systems::system::{System, Target};
 
 // The greatest breadth of a system that can be removed: no move has more targets.
 const MOST_TARGETS: usize = 4096;
-// What the buffer of targets has where none is read.
+// What the buffer of targets has where none is read. It is an array: an ArrayVec wants a Default or an allocator.
 const NO_TARGET: Target = Target {
     state: 0,
     weight: 0,
