@@ -1,12 +1,11 @@
 -- What a node of a plan gives, as the program puts it.
-use Rattle.std.proofs.Common.{◌≡◌, ℕ, ◌+◌, ◌*◌, ◌/◌, ◌%◌, ◌<◌, ◌≤◌, Bool, true, false, cond, List, [], ◌∷◌, ◌++◌, map, length, get_or, take, Some, None, sum_by, Option, sym, refl, ap, ◌∙◌, ap₂, mul-le-mul_right, mul_assoc, arith}
+use Rattle.std.proofs.Common.{◌≡◌, ℕ, ◌+◌, ◌*◌, ◌/◌, ◌%◌, ◌<◌, ◌≤◌, Bool, true, false, cond, List, [], ◌∷◌, ◌++◌, map, length, get_or, take, sum_by, sym, refl, ap, ◌∙◌, ap₂, mul-le-mul_right, mul_assoc, arith}
 use mathlib.Core.Path.{fun_ext}
-use Rattle.std.specs.List.{range_with_len, flat_map, AllByRecursion, slice_get}
+use Rattle.std.specs.List.{range_with_len, flat_map, AllByRecursion}
 use Rattle.std.proofs.lemmas.List.{take_all, take-map, map-append}
-use Rattle.std.proofs.ByRecursion.{All-get_or, All-from_get_or, All-weaker}
+use Rattle.std.proofs.ByRecursion.{All-get_or, All-from_get_or}
 use Rattle.std.proofs.lemmas.Simd.{map-map}
 use Rattle.std.proofs.lemmas.List.Sums.{sum_by-cons, get_or-le-sum_by}
-use Rattle.std.proofs.lemmas.Option.{slice_get-get_or}
 use Rattle.systems.specs.declared.system.Target.{Target}
 use Rattle.systems.specs.Actions.{has}
 use Rattle.systems.specs.Meaning.{Meaning, Move, Ruled, point}
@@ -17,7 +16,6 @@ use Rattle.formulas.specs.declared.node.StateNode.{StateNode}
 use Rattle.formulas.specs.declared.node.StateNode as sn
 use Rattle.formulas.specs.declared.node.DistNode.{DistNode}
 use Rattle.formulas.specs.declared.node.DistNode as dn
-use Rattle.formulas.specs.declared.node.Run.{Run}
 use Rattle.formulas.specs.declared.node.Term.{Term}
 use Rattle.formulas.specs.Append.{Table}
 use Rattle.formulas.specs.Lines.{Line, step, sum, sort, line, lines, entries}
@@ -27,33 +25,18 @@ use Rattle.quotient.specs.declared.write.Sum.{Sum}
 use Rattle.quotient.specs.Layings.{appended, lay}
 use Rattle.quotient.proofs.Laying.{stored}
 use Rattle.quotient.specs.Quotient.{moves_of, rows, row, first_row, move_rows, width, place, new_step, new_term, new_line, new_lines}
-use Rattle.quotient.specs.Plans.{node_width, width_before, plan_nodes, plan_lines, place_in, Planned, moved, Fit, LightTerm, LightTarget, no_target, PlainState, PlainDist, Plain, node_line, node_lines, plan_quotient, sum_at, step_node, sum_node}
+use Rattle.quotient.specs.Plans.{node_width, width_before, plan_nodes, plan_lines, place_in, Planned, moved, Fit, LightTerm, LightTarget, Plain, node_line, node_lines, plan_quotient, sum_at, step_node, sum_node}
 use Rattle.quotient.proofs.Lists.{looked_up}
 use Rattle.quotient.proofs.Places.{rows-within}
 use Rattle.quotient.proofs.Rules.{GoodIn}
 
--- a node that fits and is no step, or no sum, is plain
-pub plain-state : (x : Plan) (n : StateNode) → Fit x (State n) → ((a : ℕ) (ms hs : Run) → n ≡ sn.TheVariants.Step a ms hs → ⊥) → PlainState (length (plan_nodes x)) n
-plain-state x sn.TheVariants.Yes fit no_step = tt
-plain-state x sn.TheVariants.No fit no_step = tt
-plain-state x (sn.TheVariants.And i j) fit no_step = (omega (arith, fit.right.0, fit.inside), omega (arith, fit.right.1, fit.inside))
-plain-state x (sn.TheVariants.Not i) fit no_step = omega (arith, fit.right, fit.inside)
-plain-state x (sn.TheVariants.Step a ms hs) fit no_step = absurd (no_step a ms hs refl)
-
-pub plain-dist : (x : Plan) (n : DistNode) → Fit x (Dist n) → ((t : ℕ) (r : Run) → n ≡ dn.TheVariants.Sum t r → ⊥) → PlainDist (length (plan_nodes x)) n
-plain-dist x dn.TheVariants.Yes fit no-sum = tt
-plain-dist x dn.TheVariants.No fit no-sum = tt
-plain-dist x (dn.TheVariants.And i j) fit no-sum = (omega (arith, fit.right.0, fit.inside), omega (arith, fit.right.1, fit.inside))
-plain-dist x (dn.TheVariants.Not i) fit no-sum = omega (arith, fit.right, fit.inside)
-plain-dist x (dn.TheVariants.Sum t r) fit no-sum = absurd (no-sum t r refl)
-
--- the parts of a node that fits are in the plan
-pub all_inside : (x : Plan) (n : Node) (fit : Fit x n) (ds : List ℕ) → AllByRecursion (λ d. d < fit.index) ds → AllByRecursion (λ d. d < length (plan_nodes x)) ds
-all_inside x n fit ds h = All-weaker (λ d. d < fit.index) (λ d. d < length (plan_nodes x)) (λ d k. omega (arith, fit.inside)) ds h
-
 -- a number up to 1,000 × m, times the mass
 weighed : (m M c : ℕ) → m * M ≤ 1000000000000000 → c ≤ 1000 * m → c * M ≤ 1000000000000000000
 weighed m M c h l = omega (arith, mul-le-mul_right M l, mul_assoc 1000 m M)
+
+-- what is read past the end of a list of targets
+abbrev pub no_target : Target
+no_target = record { state = 0; weight = 0 }
 
 -- what is read past the end of a run of terms
 abbrev pub no-term : Term
@@ -79,14 +62,6 @@ light_targets R x planned mv good =
       near = omega (arith, (All-get_or _ mv j no_target h good.aimed).inside, planned.few);
       light = omega (arith, get_or-le-sum_by (λ t. t.weight) mv j no_target h, good.whole, planned.mass);
     })
-
--- a target that is asked for by its index is there
-module _ (mv : Move) (i : ℕ) (h : i < length mv) where
-  pub target_is : (t : Target) → Some t ≡ slice_get mv i → t ≡ get_or mv i no_target
-  target_is t e = let f = slice_get-get_or mv i no_target h in cc
-
-  pub target-there : ◌≡◌ {A = Option Target} None (slice_get mv i) → ⊥
-  target-there e = let f = slice_get-get_or mv i no_target h in let z : ◌≡◌ {A = ℕ} 0 1 = cc in omega arith
 
 -- as many lines as nodes give, where there are n states and r rows
 module _ (R : Meaning) (n r : ℕ) (en : n ≡ R.states) (er : r ≡ length (rows R)) (ts : List Term) (alts : List ℕ) where

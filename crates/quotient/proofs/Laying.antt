@@ -2,7 +2,6 @@
 use Rattle.std.proofs.Common.{◌≡◌, ℕ, suc, ◌+◌, ◌<◌, ◌≤◌, true, leb, List, [], ◌∷◌, ◌++◌, map, length, get_or, take, drop, set, sym, refl, ap, ◌∙◌, ap₂, append_assoc, add-zero, arith}
 use Rattle.std.specs.List.{range_with_len, flat_map}
 use Rattle.std.proofs.lemmas.List.{length-append, take-append-drop, take_more_set, drop-set-lt, length-set, map_more, map-append}
-use Rattle.std.proofs.Concat.{flat_map-take_more}
 use Rattle.std.proofs.lemmas.List.FromFn.{map-range_with_len_more}
 use Rattle.std.proofs.lemmas.Bool.{and_parts, leb-true}
 use Rattle.std.proofs.iter.runs.Lists.{fold-append}
@@ -64,10 +63,6 @@ module _ {X : Type 0} where
       ∙ ap₂ (λ n k. take n t.slots ++ (xs ++ drop k t.slots)) z (omega arith)
 
 -- one entry more, or those of one element
-module _ {X Y : Type 0} (f : Y → X) (t u v : Table X) where
-  pub put_more : (ys : List Y) (i : ℕ) (d : Y) (n : ℕ) (x : X) → i < length ys → u ≡ extended t (map f (take i ys)) → x ≡ f (get_or ys i d) → Puts u (x ∷ []) n v → v ≡ extended t (map f (take (i + 1) ys))
-  put_more ys i d n x h e g p = extended-more t u v (map f (take i ys)) (f (get_or ys i d) ∷ []) _ e (put_is u v n x _ g p) (map_more f ys i d h)
-
 pub put-next : {X : Type 0} (f : ℕ → X) (t u v : Table X) (a k n : ℕ) (x : X) → u ≡ extended t (map f (range_with_len a k)) → x ≡ f (a + k) → Puts u (x ∷ []) n v → v ≡ extended t (map f (range_with_len a (k + 1)))
 put-next f t u v a k n x e g p = extended-more t u v (map f (range_with_len a k)) (f (a + k) ∷ []) _ e (put_is u v n x _ g p) (map-range_with_len_more f a k (a + k) refl)
 
@@ -89,9 +84,6 @@ module _ {X : Type 0} (s u v : Store) where
   lay-joined f g k e h =
       lay_more s u v (map f (flat_map g (range_with_len 0 k))) (map f (g k)) _ e h (ap (map f) (joined-counting_more g k) ∙ map-append f (flat_map g (range_with_len 0 k)) (g k))
 
-  pub lay-lines : (f : X → List Line) (xs : List X) (k : ℕ) (d : X) → k < length xs → u ≡ lay_all s (flat_map f (take k xs)) → v ≡ lay_all u (f (get_or xs k d)) → v ≡ lay_all s (flat_map f (take (k + 1) xs))
-  lay-lines f xs k d h e g = lay_more s u v (flat_map f (take k xs)) (f (get_or xs k d)) _ e g (sym (flat_map-take_more f xs k d h))
-
 -- the same tables, step after step
 same-list : {X : Type 0} (l m n : MutBor (AppendList X)) → SameTable l m → SameTable m n → SameTable l n
 same-list l m n a b = (b.0 ∙ a.0, b.1 ∙ a.1)
@@ -105,10 +97,6 @@ lay_step ns ms ats bs cs a xs ys l e f g h ts =
     (g ∙ ap₂ (λ b c. appended ns (State (Step a (run_between ats b) (run_between b c)))) e (f ∙ ap (λ b. extended b ys) e))
     (f ∙ ap (λ b. extended b ys) e ∙ sym (fold-append appended ats xs ys))
     ∙ ap (lay (stored ns ts ats)) (sym h)
-
-pub lay-sum : (ns ms : Table Node) (ats bs : Table Term) (t : ℕ) (ks : List Term) → bs ≡ extended ats ks → ms ≡ appended ns (Dist (Sum t (run_between ats bs))) → (alts : Table ℕ) → stored ms bs alts ≡ lay (stored ns ats alts) (sum t ks)
-lay-sum ns ms ats bs t ks e g alts =
-    ap₂ (λ m b. stored m b alts) (g ∙ ap (λ b. appended ns (Dist (Sum t (run_between ats b)))) e) e
 
 -- the three tables of lines
 laid-terms : (s : Store) (ls : List Line) → (lay_all s ls).terms ≡ extended s.terms (term_table ls)

@@ -1,8 +1,7 @@
 -- Whether the second tables have room for a quotient, by what is counted.
-use Rattle.std.proofs.Common.{refl, ◌≡◌, ℕ, ◌*◌, ◌<◌, ◌≤◌, Bool, true, false, cond, not, ◌&&◌, ◌||◌, ltb, leb, List, length, take, Ok, Err, sum_by, Result, sym, ap, ◌∙◌, ⊎_elim, arith}
-use mathlib.Core.Path.{subst₃}
+use Rattle.std.proofs.Common.{refl, ◌≡◌, ℕ, ◌*◌, ◌<◌, ◌≤◌, Bool, true, false, cond, not, ◌&&◌, ◌||◌, ltb, leb, List, length, Ok, Err, sum_by, Result, sym, ap, ◌∙◌, ⊎_elim, arith}
 use Rattle.std.proofs.lemmas.List.{length-map}
-use Rattle.std.proofs.lemmas.Bool.{cases_lt, or_parts, and_parts, and_from, and_left, and_right, cond-true, cond-false, lt-leb, ltb-false}
+use Rattle.std.proofs.lemmas.Bool.{cases_lt, and_from, and_left, and_right, cond-true, cond-false, lt-leb}
 use Rattle.systems.specs.declared.actions.ActionSet.{ActionSet}
 use Rattle.systems.specs.Actions.{has}
 use Rattle.systems.specs.Meaning.{Meaning}
@@ -11,11 +10,9 @@ use Rattle.formulas.specs.declared.refusal.Refusal.{Refusal}
 use Rattle.formulas.specs.declared.refusal.Refusal.TheVariants.{NoFormula, Large, Heavy, Short}
 use Rattle.formulas.specs.declared.tables.Standing.{Standing}
 use Rattle.formulas.specs.declared.tables.Tables.{Tables}
-use Rattle.formulas.specs.Laws.{LayoutLaw, HeldLaw}
+use Rattle.formulas.specs.Laws.{LayoutLaw}
 use Rattle.formulas.specs.Layout.{fills, term_table, alternative_table}
 use Rattle.formulas.specs.Lines.{Line, Formula, line, lines}
-use Rattle.formulas.specs.Right.{AllRight}
-use Rattle.formulas.specs.Stands.{stands}
 use Rattle.formulas.specs.Tables.{Slots, contents, takes, fits, stands_in, standing, Front}
 use Rattle.quotient.specs.Divisions.{room_for, removable, remainder, placed, divided, whole_remainder, Dividable}
 use Rattle.quotient.specs.Plans.{width_before, topped, all_targets, alternative_need}
@@ -129,11 +126,6 @@ module _ (A : ActionSet) (R : Meaning) (t : Tables) (root : ℕ) (d : Dividable 
   pub alternative-count : (count : ℕ) → count ≡ topped (sum_by (alternative_need (has A) R) t.nodes.now) → count ≡ topped (length (alternative_table Q))
   alternative-count count e = e ∙ ap topped (sym (alternatives_needed (has A) R t.nodes.now t.terms.now t.alternatives.now d.removed d.right))
 
-  pub root-inside : HeldLaw → root < length t.nodes.now
-  root-inside held =
-      let formed = (held t.nodes.now t.terms.now t.alternatives.now root d.removed d.held).0 in
-      omega (arith, formed.root.before, length-map t.nodes.now (line t.terms.now t.alternatives.now))
-
 -- what an answer of removable tells
 module _ (m : ℕ) (R : Meaning) where
   abbrev large : Bool
@@ -147,30 +139,8 @@ module _ (m : ℕ) (R : Meaning) where
   is_removable false true e = (cc, cc)
   is_removable false false e = (refl, refl)
 
-  pub not-removable : (l h : Bool) (why : Refusal) (rest : Result Standing Refusal) → ◌≡◌ {A = Result (Unit {0}) Refusal} (Err why) (cond l (Err Large) (cond h (Err Heavy) (Ok tt))) → Err why ≡ cond l (Err Large) (cond h (Err Heavy) rest)
-  not-removable true h why rest e = cc
-  not-removable false true why rest e = cc
-  not-removable false false why rest e = cc
-
 -- what the tests tell, where u is what is used of the tables t
 module _ (R : Meaning) (f : Fills) (root m : ℕ) (t u : Tables) (front : Front f t u) (held : stands_in f root m (contents t) ≡ true) (ok : Ok tt ≡ removable m R) where
-  pub dividable : AllRight (take f.nodes t.nodes.now) (take f.terms t.terms.now) (take f.alternatives t.alternatives.now) m → Dividable R u root
-  dividable right =
-      let tests = is_removable m R (large m R) (heavy m R) ok in
-      let sizes = or_parts (ltb 4096 R.states) (ltb 4096 R.breadth) tests.0 in
-      let en = sym front.nodes in
-      let et = sym front.terms in
-      let ea = sym front.alternatives in
-      let stand = (and_parts (leb f.nodes (length t.nodes.now) && (leb f.terms (length t.terms.now) && leb f.alternatives (length t.alternatives.now))) _ held).1 in
-      record {
-        removed = m;
-        few = ltb-false 4096 R.states sizes.0;
-        narrow = ltb-false 4096 R.breadth sizes.1;
-        light = ltb-false 1000000000000000 (m * R.mass) tests.1;
-        held = subst₃ (λ ns ts alts. stands ns ts alts root m ≡ true) en et ea stand;
-        right = subst₃ (λ ns ts alts. AllRight ns ts alts m) en et ea right;
-      }
-
   module _ (A : ActionSet) where
     pub remainder_is : whole_remainder A R u root ≡ remainder A R f root (contents t)
     remainder_is = let en = front.nodes in let et = front.terms in let ea = front.alternatives in cc

@@ -24,9 +24,13 @@ extended t xs = fold appended t xs
 abbrev pub filled : Lists → Store
 filled l = store l.nodes.now l.terms.now l.alternatives.now
 
--- the same list, over the same table
+-- l and m are lists over the same table
+abbrev pub SameSlots : {X : Type 0} → AppendList X → AppendList X → Type 0
+SameSlots l m = m.slots.ghost_name ≡ l.slots.ghost_name
+
+-- loans of one list, which stays over its table
 abbrev pub SameTable : {X : Type 0} → MutBor (AppendList X) → MutBor (AppendList X) → Type 0
-SameTable l m = (m.ghost_name ≡ l.ghost_name) × (m.now.slots.ghost_name ≡ l.now.slots.ghost_name)
+SameTable l m = (m.ghost_name ≡ l.ghost_name) × SameSlots l.now m.now
 
 abbrev pub SameTables : Lists → Lists → Type 0
 SameTables l m = SameTable l.nodes m.nodes × SameTable l.terms m.terms × SameTable l.alternatives m.alternatives

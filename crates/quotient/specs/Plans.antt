@@ -1,6 +1,6 @@
 -- Where the lines of a quotient go, and how many entries they take.
-use Rattle.std.specs.Prelude.{◌≡◌, ℕ, ◌+◌, ◌*◌, ◌/◌, ◌%◌, ◌<◌, ◌≤◌, min, Bool, cond, List, length, take, sum_by, slice_index}
-use Rattle.std.specs.List.{range_with_len}
+use Rattle.std.specs.Prelude.{◌≡◌, ℕ, ◌+◌, ◌*◌, ◌/◌, ◌%◌, ◌<◌, ◌≤◌, min, Bool, cond, List, length, take, sum_by, slice_index, slice_index_or}
+use Rattle.std.specs.List.{range_with_len, AllByRecursion}
 use Rattle.systems.specs.declared.system.Target.{Target}
 use Rattle.systems.specs.Actions.{has}
 use Rattle.systems.specs.Meaning.{Meaning, Move}
@@ -72,6 +72,14 @@ pub record Fit (x : Plan) (n : Node) : Type 0 where
   pub light : removed * x.mass ≤ 1000000000000000
   pub right : Right x.tables.terms.now x.tables.alternatives.now removed index n
 
+-- every node does
+abbrev pub AllFit : Plan → Type 0
+AllFit x = (i : ℕ) (d : Node) → i < length (plan_nodes x) → Fit x (slice_index_or (plan_nodes x) i d)
+
+-- the parts ds are in the plan
+abbrev pub AllInside : Plan → List ℕ → Type 0
+AllInside x ds = AllByRecursion (λ d. d < length (plan_nodes x)) ds
+
 -- a step, and a sum, as nodes
 abbrev pub step_node : Step → Node
 step_node s = State (sn.TheVariants.Step s.action s.moves s.heres)
@@ -88,10 +96,6 @@ pub record LightTerm (x : Plan) (k : Term) : Type 0 where
 pub record LightTarget (x : Plan) (t : Target) : Type 0 where
   pub near : t.state < 4096
   pub light : t.weight ≤ x.mass
-
--- what a buffer of targets has where none is read
-abbrev pub no_target : Target
-no_target = record { state = 0; weight = 0 }
 
 -- a node with its parts renumbered
 abbrev pub moved_state : (ℕ → ℕ) → StateNode → StateNode

@@ -18,6 +18,10 @@ const MOST_STATES: u32 = 4096;
 const MOST_MASS: u128 = 1000000000000000;
 // The most nodes of a formula that has a quotient: each gives at least one.
 const MOST_NODES: usize = 1048576;
+// A first row for each action of each state.
+const FIRSTS: usize = 131072;
+// An offset for every 32nd node.
+const OFFSETS: usize = 32768;
 
 // Whether a system can be removed, `mass` having been removed.
 fn removable<S: System>(mass: u64, system: &S) -> Result<(), Refusal>
@@ -50,10 +54,10 @@ fn divide_whole<'a, S: System>(
     if MOST_NODES < used.nodes.len() {
         return Err(Refusal::Short);
     }
-    let mut firsts = [0; 131072];
+    let mut firsts = [0; FIRSTS];
     let rows = fill_firsts(system, &mut firsts);
     let states = system.states();
-    let mut offsets = [0; 32768];
+    let mut offsets = [0; OFFSETS];
     let lines = fill_offsets(used.nodes, states, rows, &mut offsets);
     let nodes = room(second.nodes.len(), lines)?;
     let terms = room(second.terms.len(), terms_need(system, used.terms.len()))?;

@@ -14,6 +14,7 @@ use systems::system::System;
 const MOST_ENTRIES: u64 = 1048576;
 
 // The targets of the moves of a state on an action.
+// A loop, as those over ranges below: of a fold over a range the library gives no equation.
 fn targets_on<S: System>(system: &S, state: u32, action: u32) -> u64
     ensures { result ≡ topped (targets_on (S.meaning system.now) state action) }
 {
@@ -109,11 +110,10 @@ fn alternative_need<S: System>(system: &S, shared: ActionSet, node: Node) -> u64
 pub(crate) fn alternatives_need<S: System>(system: &S, shared: ActionSet, nodes: &[Node]) -> u64
     ensures { result ≡ topped (sum_by (alternative_need (has shared) (S.meaning system.now)) nodes.now) }
 {
-    let mut sum: u64 = 0;
-    for node in nodes {
-        sum = sum.saturating_add(alternative_need(system, shared, *node));
-    }
-    sum
+    nodes
+        .iter()
+        .map(|node| alternative_need(system, shared, *node))
+        .fold(0, u64::saturating_add)
 }
 
 // The room that so many entries take in a table of that length.

@@ -1,5 +1,5 @@
 // Where the lines of a quotient go: the rows of a system, and the places of the lines that each node gives.
-ghost use Rattle.std.specs.Prelude.{◌≡◌, ◌+◌, ◌*◌, ◌<◌, ◌≤◌, length};
+ghost use Rattle.std.specs.Prelude.{◌≡◌, ◌+◌, ◌*◌, ◌<◌, ◌≤◌, length, sum_by};
 ghost use Rattle.std.specs.List.{range_with_len};
 ghost use Rattle.quotient.specs.Quotient.{rows as all_rows, move_rows};
 ghost use Rattle.quotient.specs.Plans.{node_width, width_before, Sampled, Firsts, plan_nodes, place_in, Planned};
@@ -46,6 +46,7 @@ pub(crate) fn fill_firsts<S: System>(system: &S, firsts: &mut [u32]) -> u32
 {
     let n = system.states();
     let mut next = n;
+    // By index: of what is written through `iter_mut` a proof knows the length alone.
     for i in 0..n * ACTIONS {
         firsts[i as usize] = next;
         next += system.moves(i / ACTIONS, i % ACTIONS);
@@ -63,16 +64,17 @@ fn width(node: Node, states: u32, rows: u32) -> u32
     }
 }
 
-// Keeps the number of lines before node `i`, if that is a 32nd node.
-fn sample(nodes: &[Node], states: u32, rows: u32, i: usize, total: u64, offsets: &mut [u64])
-    requires total { total ≡ width_before states rows nodes.now i }
-    requires room { i < length offsets.old * 32 }
-    requires sampled { Sampled states rows nodes.now offsets.old i }
-    ensures { Sampled states rows nodes.now offsets.new (i + 1) }
+// How many lines nodes give.
+fn lines(nodes: &[Node], states: u32, rows: u32) -> u64
+    requires few { length nodes.now ≤ 1048576 }
+    requires states { states ≤ 1073741824 }
+    requires rows { rows ≤ 1073741824 }
+    ensures { result ≡ sum_by (node_width states rows) nodes.now }
 {
-    if i % BLOCK == 0 {
-        offsets[i / BLOCK] = total;
-    }
+    nodes
+        .iter()
+        .map(|node| width(*node, states, rows) as u64)
+        .sum::<u64>()
 }
 
 // Fills in the number of lines before every 32nd node, and answers the number of all lines.
@@ -85,9 +87,9 @@ pub(crate) fn fill_offsets(nodes: &[Node], states: u32, rows: u32, offsets: &mut
     ensures offsets { Sampled states rows nodes.now offsets.new (length nodes.now) }
 {
     let mut total: u64 = 0;
-    for (i, node) in nodes.iter().enumerate() {
-        sample(nodes, states, rows, i, total, offsets);
-        total += width(*node, states, rows) as u64;
+    for (block, nodes) in nodes.chunks(BLOCK).enumerate() {
+        offsets[block] = total;
+        total += lines(nodes, states, rows);
     }
     total
 }
@@ -117,11 +119,8 @@ impl<'a, S: System> Division<'a, S> {
         let plan = self.plan;
         let end = d as usize;
         let block = end / BLOCK;
-        let mut sum = plan.offsets[block];
-        for node in &plan.tables.nodes[block * BLOCK..end] {
-            sum += width(*node, plan.states, plan.rows) as u64;
-        }
-        sum
+        let rest = &plan.tables.nodes[block * BLOCK..end];
+        plan.offsets[block] + lines(rest, plan.states, plan.rows)
     }
 
     // The number of the line that node `d` gives at the state or row `p`.

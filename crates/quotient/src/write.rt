@@ -7,8 +7,8 @@ ghost use Rattle.formulas.specs.Append.{table};
 ghost use Rattle.formulas.specs.Layout.{fills};
 ghost use Rattle.formulas.specs.Stores.{store};
 ghost use Rattle.formulas.specs.Tables.{slots, fits, laid};
-ghost use Rattle.quotient.specs.Layings.{extended, filled, SameTables, lay, lay_all};
-ghost use Rattle.quotient.specs.Plans.{plan_nodes, place_in, Fit, LightTerm, LightTarget, plan_quotient, no_target, moved_state, moved_dist, moved, PlainState, PlainDist, Plain, node_width, node_line, node_lines, term_at, sum_at, step_node, sum_node};
+ghost use Rattle.quotient.specs.Layings.{extended, filled, SameSlots, SameTables, lay, lay_all};
+ghost use Rattle.quotient.specs.Plans.{plan_nodes, place_in, AllInside, Fit, AllFit, LightTerm, LightTarget, plan_quotient, moved_state, moved_dist, moved, PlainState, PlainDist, Plain, node_width, node_line, node_lines, term_at, sum_at, step_node, sum_node};
 ghost use Rattle.quotient.specs.Quotient.{moves_of};
 
 use crate::plan::{ACTIONS, Division};
@@ -19,7 +19,7 @@ use systems::system::{System, Target};
 
 // The greatest breadth of a system that can be removed: no move has more targets.
 const MOST_TARGETS: usize = 4096;
-// What the buffer of targets has where none is read.
+// What the buffer of targets has where none is read. It is an array: an ArrayVec wants a Default or an allocator.
 const NO_TARGET: Target = Target {
     state: 0,
     weight: 0,
@@ -52,9 +52,9 @@ pub(crate) struct Lists<'i, 'j, 'k, 'n, 't, 'a> {
 impl<'a, S: System> Division<'a, S> {
     // Appends the lines of the parts at the state or row `p`.
     fn put_places(&self, parts: &[u32], p: u32, out: &mut AppendList<u32>)
-        requires inside { AllByRecursion (λ d. d < length (plan_nodes self.now.plan)) parts.now }
+        requires inside { AllInside self.now.plan parts.now }
         requires small { p ≤ 1073741824 }
-        ensures same { out.new.slots.ghost_name ≡ out.old.slots.ghost_name }
+        ensures same { SameSlots out.old out.new }
         ensures wrote { table out.new ≡ extended (table out.old) (map (λ d. place_in self.now.plan d p) parts.now) }
     {
         for d in parts {
@@ -66,20 +66,20 @@ impl<'a, S: System> Division<'a, S> {
     fn put_rows(&self, d: u32, rows: Run, out: &mut AppendList<u32>)
         requires inside { d < length (plan_nodes self.now.plan) }
         requires small { rows.first + rows.count ≤ 1073741824 }
-        ensures same { out.new.slots.ghost_name ≡ out.old.slots.ghost_name }
+        ensures same { SameSlots out.old out.new }
         ensures wrote { table out.new ≡ extended (table out.old) (map (place_in self.now.plan d) (range_with_len rows.first rows.count)) }
     {
         let before = self.offset(d);
-        for k in 0..rows.count {
-            out.put((before + rows.first as u64 + k as u64) as u32);
+        for row in rows.first..rows.first + rows.count {
+            out.put((before + row as u64) as u32);
         }
     }
 
     // Appends the lines of the parts at a run of rows.
     fn put_crossed(&self, parts: &[u32], rows: Run, out: &mut AppendList<u32>)
-        requires inside { AllByRecursion (λ d. d < length (plan_nodes self.now.plan)) parts.now }
+        requires inside { AllInside self.now.plan parts.now }
         requires small { rows.first + rows.count ≤ 1073741824 }
-        ensures same { out.new.slots.ghost_name ≡ out.old.slots.ghost_name }
+        ensures same { SameSlots out.old out.new }
         ensures wrote { table out.new ≡ extended (table out.old) (cross (place_in self.now.plan) parts.now (range_with_len rows.first rows.count)) }
     {
         for d in parts {
@@ -96,10 +96,10 @@ impl<'a, S: System> Division<'a, S> {
         rows: Run,
         out: &mut AppendList<u32>,
     )
-        requires inside { AllByRecursion (λ d. d < length (plan_nodes self.now.plan)) parts.now }
+        requires inside { AllInside self.now.plan parts.now }
         requires point { p ≤ 1073741824 }
         requires small { rows.first + rows.count ≤ 1073741824 }
-        ensures same { out.new.slots.ghost_name ≡ out.old.slots.ghost_name }
+        ensures same { SameSlots out.old out.new }
         ensures wrote { table out.new ≡ extended (table out.old) (if shared then cross (place_in self.now.plan) parts.now (range_with_len rows.first rows.count) else map (λ d. place_in self.now.plan d p) parts.now) }
     {
         if shared {
@@ -119,11 +119,11 @@ impl<'a, S: System> Division<'a, S> {
         rows: Run,
         out: &mut AppendList<u32>,
     )
-        requires inside { AllByRecursion (λ d. d < length (plan_nodes self.now.plan)) parts.now }
-        requires heres { AllByRecursion (λ d. d < length (plan_nodes self.now.plan)) heres.now }
+        requires inside { AllInside self.now.plan parts.now }
+        requires heres { AllInside self.now.plan heres.now }
         requires point { p ≤ 1073741824 }
         requires small { rows.first + rows.count ≤ 1073741824 }
-        ensures same { out.new.slots.ghost_name ≡ out.old.slots.ghost_name }
+        ensures same { SameSlots out.old out.new }
         ensures wrote { table out.new ≡ extended (table out.old) (if shared then map (λ d. place_in self.now.plan d p) heres.now else cross (place_in self.now.plan) parts.now (range_with_len rows.first rows.count) ++ map (λ d. place_in self.now.plan d p) heres.now) }
     {
         if shared {
@@ -181,7 +181,7 @@ impl<'a, S: System> Division<'a, S> {
     fn put_targets(&self, targets: &[Target], term: Term, out: &mut AppendList<Term>)
         requires targets { AllByRecursion (LightTarget self.now.plan) targets.now }
         requires term { LightTerm self.now.plan term }
-        ensures same { out.new.slots.ghost_name ≡ out.old.slots.ghost_name }
+        ensures same { SameSlots out.old out.new }
         ensures wrote { table out.new ≡ extended (table out.old) (map (term_at self.now.plan term) targets.now) }
     {
         let before = self.offset(term.node);
@@ -197,7 +197,7 @@ impl<'a, S: System> Division<'a, S> {
     fn put_terms(&self, targets: &[Target], parts: &[Term], out: &mut AppendList<Term>)
         requires targets { AllByRecursion (LightTarget self.now.plan) targets.now }
         requires terms { AllByRecursion (LightTerm self.now.plan) parts.now }
-        ensures same { out.new.slots.ghost_name ≡ out.old.slots.ghost_name }
+        ensures same { SameSlots out.old out.new }
         ensures wrote { table out.new ≡ extended (table out.old) (cross (term_at self.now.plan) parts.now targets.now) }
     {
         for t in parts {
@@ -240,32 +240,20 @@ impl<'a, S: System> Division<'a, S> {
         }
     }
 
-    // The target of a number that there is.
-    fn target_at(&self, state: u32, action: u32, number: u32, index: u32) -> Target
-        requires { index < length (slice_index_or ((S.meaning self.now.system.now).moves state action) number []) }
-        ensures { result ≡ slice_index_or (slice_index_or ((S.meaning self.now.system.now).moves state action) number []) index no_target }
-    {
-        match self.system.target(state, action, number, index) {
-            Some(t) => t,
-            None => unreachable!(),
-        }
-    }
-
     // Reads the targets of a move to the front of the buffer, and answers them.
     fn read_targets<'b>(
         &self,
         state: u32,
         action: u32,
         number: u32,
-        buffer: &'b mut [Target],
+        buffer: &'b mut [Target; MOST_TARGETS],
     ) -> &'b [Target]
         requires inside { number < length ((S.meaning self.now.system.now).moves state action) }
-        requires room { 4096 ≤ length buffer.old }
         ensures { result.now ≡ slice_index_or ((S.meaning self.now.system.now).moves state action) number [] }
     {
         let count = self.system.targets(state, action, number);
         for index in 0..count {
-            buffer[index as usize] = self.target_at(state, action, number, index);
+            buffer[index as usize] = self.system.target(state, action, number, index).unwrap();
         }
         &buffer[0..count as usize]
     }
@@ -277,12 +265,11 @@ impl<'a, S: System> Division<'a, S> {
         state: u32,
         action: u32,
         number: u32,
-        buffer: &mut [Target],
+        buffer: &mut [Target; MOST_TARGETS],
         out: &mut Lists,
     )
         requires inside { number < length ((S.meaning self.now.system.now).moves state action) }
         requires fit { Fit self.now.plan (sum_node sum) }
-        requires room { 4096 ≤ length buffer.old }
         ensures same { SameTables out.old out.new }
         ensures wrote { filled out.new ≡ lay (filled out.old) (sum_at self.now.plan sum (slice_index_or ((S.meaning self.now.system.now).moves state action) number [])) }
     {
@@ -291,9 +278,15 @@ impl<'a, S: System> Division<'a, S> {
     }
 
     // Writes the lines of a sum at the moves of a state on an action.
-    fn put_sums_on(&self, sum: Sum, state: u32, action: u32, buffer: &mut [Target], out: &mut Lists)
+    fn put_sums_on(
+        &self,
+        sum: Sum,
+        state: u32,
+        action: u32,
+        buffer: &mut [Target; MOST_TARGETS],
+        out: &mut Lists,
+    )
         requires fit { Fit self.now.plan (sum_node sum) }
-        requires room { 4096 ≤ length buffer.old }
         ensures same { SameTables out.old out.new }
         ensures wrote { filled out.new ≡ lay_all (filled out.old) (map (sum_at self.now.plan sum) ((S.meaning self.now.system.now).moves state action)) }
     {
@@ -303,9 +296,14 @@ impl<'a, S: System> Division<'a, S> {
     }
 
     // Writes its lines at the moves of a state.
-    fn put_sums_from(&self, sum: Sum, state: u32, buffer: &mut [Target], out: &mut Lists)
+    fn put_sums_from(
+        &self,
+        sum: Sum,
+        state: u32,
+        buffer: &mut [Target; MOST_TARGETS],
+        out: &mut Lists,
+    )
         requires fit { Fit self.now.plan (sum_node sum) }
-        requires room { 4096 ≤ length buffer.old }
         ensures same { SameTables out.old out.new }
         ensures wrote { filled out.new ≡ lay_all (filled out.old) (map (sum_at self.now.plan sum) (moves_of (S.meaning self.now.system.now) state)) }
     {
@@ -315,9 +313,8 @@ impl<'a, S: System> Division<'a, S> {
     }
 
     // Writes its lines at all moves.
-    fn put_sums_along(&self, sum: Sum, buffer: &mut [Target], out: &mut Lists)
+    fn put_sums_along(&self, sum: Sum, buffer: &mut [Target; MOST_TARGETS], out: &mut Lists)
         requires fit { Fit self.now.plan (sum_node sum) }
-        requires room { 4096 ≤ length buffer.old }
         ensures same { SameTables out.old out.new }
         ensures wrote { filled out.new ≡ lay_all (filled out.old) (map (sum_at self.now.plan sum) (flat_map (moves_of (S.meaning self.now.system.now)) (range_with_len 0 (S.meaning self.now.system.now).states))) }
     {
@@ -327,9 +324,8 @@ impl<'a, S: System> Division<'a, S> {
     }
 
     // Writes its lines at all rows.
-    fn put_sums(&self, sum: Sum, buffer: &mut [Target], out: &mut Lists)
+    fn put_sums(&self, sum: Sum, buffer: &mut [Target; MOST_TARGETS], out: &mut Lists)
         requires fit { Fit self.now.plan (sum_node sum) }
-        requires room { 4096 ≤ length buffer.old }
         ensures same { SameTables out.old out.new }
         ensures wrote { filled out.new ≡ lay_all (filled out.old) (node_lines (S.meaning self.now.system.now) self.now.plan (sum_node sum)) }
     {
@@ -410,9 +406,8 @@ impl<'a, S: System> Division<'a, S> {
     }
 
     // Writes the lines of a distribution node.
-    fn put_dist(&self, node: DistNode, buffer: &mut [Target], out: &mut Lists)
+    fn put_dist(&self, node: DistNode, buffer: &mut [Target; MOST_TARGETS], out: &mut Lists)
         requires fit { Fit self.now.plan (Node.Dist node) }
-        requires room { 4096 ≤ length buffer.old }
         ensures same { SameTables out.old out.new }
         ensures wrote { filled out.new ≡ lay_all (filled out.old) (node_lines (S.meaning self.now.system.now) self.now.plan (Node.Dist node)) }
     {
@@ -425,9 +420,8 @@ impl<'a, S: System> Division<'a, S> {
     }
 
     // Writes the lines of a node.
-    fn put_node(&self, node: Node, buffer: &mut [Target], out: &mut Lists)
+    fn put_node(&self, node: Node, buffer: &mut [Target; MOST_TARGETS], out: &mut Lists)
         requires fit { Fit self.now.plan node }
-        requires room { 4096 ≤ length buffer.old }
         ensures same { SameTables out.old out.new }
         ensures wrote { filled out.new ≡ lay_all (filled out.old) (node_lines (S.meaning self.now.system.now) self.now.plan node) }
     {
@@ -438,9 +432,8 @@ impl<'a, S: System> Division<'a, S> {
     }
 
     // Writes the lines of all nodes, in their order.
-    fn put_nodes(&self, buffer: &mut [Target], out: &mut Lists)
-        requires fit { (i : ℕ) (d : Node) → i < length (plan_nodes self.now.plan) → Fit self.now.plan (slice_index_or (plan_nodes self.now.plan) i d) }
-        requires room { 4096 ≤ length buffer.old }
+    fn put_nodes(&self, buffer: &mut [Target; MOST_TARGETS], out: &mut Lists)
+        requires fit { AllFit self.now.plan }
         ensures same { SameTables out.old out.new }
         ensures wrote { filled out.new ≡ lay_all (filled out.old) (plan_quotient (S.meaning self.now.system.now) self.now.plan) }
     {
@@ -456,8 +449,8 @@ impl<'a, S: System> Division<'a, S> {
         terms: &mut AppendList<Term>,
         alternatives: &mut AppendList<u32>,
     )
-        requires fit { (i : ℕ) (d : Node) → i < length (plan_nodes self.now.plan) → Fit self.now.plan (slice_index_or (plan_nodes self.now.plan) i d) }
-        ensures same { (nodes.new.slots.ghost_name ≡ nodes.old.slots.ghost_name) × (terms.new.slots.ghost_name ≡ terms.old.slots.ghost_name) × (alternatives.new.slots.ghost_name ≡ alternatives.old.slots.ghost_name) }
+        requires fit { AllFit self.now.plan }
+        ensures same { SameSlots nodes.old nodes.new × SameSlots terms.old terms.new × SameSlots alternatives.old alternatives.new }
         ensures wrote { store nodes.new terms.new alternatives.new ≡ lay_all (store nodes.old terms.old alternatives.old) (plan_quotient (S.meaning self.now.system.now) self.now.plan) }
     {
         let mut buffer = [NO_TARGET; MOST_TARGETS];
@@ -471,7 +464,7 @@ impl<'a, S: System> Division<'a, S> {
 
     // Writes the quotient to the fronts of three tables that have the room.
     pub(crate) fn write(&self, nodes: &mut [Node], terms: &mut [Term], alternatives: &mut [u32])
-        requires fit { (i : ℕ) (d : Node) → i < length (plan_nodes self.now.plan) → Fit self.now.plan (slice_index_or (plan_nodes self.now.plan) i d) }
+        requires fit { AllFit self.now.plan }
         requires room { fits (fills (plan_quotient (S.meaning self.now.system.now) self.now.plan)) (slots nodes.old terms.old alternatives.old) ≡ true }
         ensures { slots nodes.new terms.new alternatives.new ≡ laid (plan_quotient (S.meaning self.now.system.now) self.now.plan) (slots nodes.old terms.old alternatives.old) }
     {

@@ -1,9 +1,9 @@
-use Rattle.std.proofs.Common.{◌*◌, length, ap, ◌∙◌, arith}
+use Rattle.std.proofs.Common.{◌*◌, ap, ◌∙◌, arith}
 use Rattle.std.proofs.lemmas.Result.{err_from_is_err_and}
 use Rattle.formulas.specs.Tables.{held}
 use Rattle.quotient.specs.Divisions.{whole_remainder}
 use Rattle.quotient.proofs.Dividing.{place_at}
-use Rattle.quotient.proofs.Rooms.{too-many-nodes, short-nodes, short-terms, short-alternatives, small, all_fit, found, too_many, node-count, term_count, alternative-count, root-inside}
+use Rattle.quotient.proofs.Rooms.{too-many-nodes, short-nodes, short-terms, short-alternatives, all_fit, found, too_many, node-count, term_count, alternative-count}
 use Rattle.quotient.proofs.divide.divide_whole.Goals as goal
 
 pub returns-then-used-gt-MOST_NODES-clause-value : goal.returns-then-used-gt-MOST_NODES-clause-value
@@ -36,25 +36,6 @@ returns-in_err-alternatives-clause-value g c =
     let p = err_from_is_err_and c.from_residual-in_err-alternatives.result c.from_residual-in_err-alternatives.ensures.1 in
     rw (p.1, p.2) (short-alternatives (whole_remainder c.args.shared R u c.args.root) (held c.args.second.now) _ _ alternatives c.in_err-alternatives.ensures)
 
-pub invariant_of-division : goal.invariant_of-division
-invariant_of-division g c = record {
-  planned = record {
-    states = c.states-states.ensures;
-    rows = c.fill_firsts-rows.ensures.rows;
-    mass = c.mass.ensures;
-    few = c.requires.few;
-    narrow = c.requires.narrow;
-    few_rows = c.fill_firsts-rows.ensures.small;
-    sampling = record {
-      sampled = c.fill_offsets-lines.ensures.offsets;
-      blocks = omega (arith, c.if-used-gt-MOST_NODES.false, c.fill_offsets-lines.auto.offsets);
-      few = omega (arith, small (length c.args.second.now.nodes.now) c.fill_offsets-lines.result c.in_ok-nodes.nodes c.in_ok-nodes.ensures, c.fill_offsets-lines.ensures.total);
-    };
-    firsts = c.fill_firsts-rows.ensures.firsts;
-    long = omega (arith, c.requires.few, c.fill_firsts-rows.auto.firsts);
-  };
-}
-
 pub write-requires : goal.write-requires
 write-requires g c =
     let R = g.S.System.meaning c.args.system.now in
@@ -72,9 +53,6 @@ write-requires g c =
       };
       room = all_fit (whole_remainder c.args.shared R u c.args.root) (held c.args.second.now) _ _ _ _ _ _ nodes terms alternatives c.in_ok-nodes.ensures c.in_ok-terms.ensures c.in_ok-alternatives.ensures;
     }
-
-pub place-requires : goal.place-requires
-place-requires g c = record { inside = root-inside c.args.shared (g.S.System.meaning c.args.system.now) c.args.used c.args.root c.requires c.tables_stand.ensures.held; small = omega arith }
 
 pub returns-clause-value : goal.returns-clause-value
 returns-clause-value g c =

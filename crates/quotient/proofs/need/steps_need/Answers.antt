@@ -1,21 +1,10 @@
-use Rattle.std.proofs.Common.{◌≡◌, ℕ, ◌+◌, length, sum_by, refl, ap, ◌∙◌, zero-add, arith}
-use Rattle.std.specs.List.{range_with_len}
+use Rattle.std.proofs.Common.{ℕ, length, ap, ◌∙◌}
 use Rattle.quotient.specs.Plans.{topped, step_need}
 use Rattle.quotient.proofs.Needing.{topped-next}
 use Rattle.quotient.proofs.need.steps_need.Goals as goal
-
-pub loop-p-init : goal.loop-p-init
-loop-p-init g c = refl
 
 pub loop-p-preserved : goal.loop-p-preserved
 loop-p-preserved g c =
     let R = g.S.System.meaning c.args.system.now in
     let f : ℕ → ℕ = λ p. step_need c.args.shared c.args.m c.args.h (length (R.moves p c.args.action)) in
     topped-next f 0 c.loop-p.p _ _ _ c.loop-p.invariant (c.step_need.ensures ∙ ap (λ k. topped (step_need c.args.shared c.args.m c.args.h k)) c.moves.ensures) c.saturating_add-sum.ensures
-
-pub returns : goal.returns
-returns g c =
-    let R = g.S.System.meaning c.args.system.now in
-    let f : ℕ → ℕ = λ p. step_need c.args.shared c.args.m c.args.h (length (R.moves p c.args.action)) in
-    let end : c.loop-p.p ≡ R.states = omega (arith, c.states-n.ensures, c.loop-p.auto.p-end, c.loop-p-test.false) in
-    c.loop-p.invariant ∙ ap (λ n. topped (0 + sum_by f (range_with_len 0 n))) end ∙ ap topped (zero-add (sum_by f (range_with_len 0 R.states)))

@@ -1,36 +1,13 @@
-use Rattle.std.proofs.Common.{◌≡◌, ℕ, ◌<◌, ◌≤◌, cond, List, ◌++◌, map, length, sym, refl, ap, ◌∙◌, subst, arith}
-use Rattle.std.specs.List.{range_with_len, AllByRecursion}
+use Rattle.std.proofs.Common.{◌≡◌, ℕ, ◌≤◌, cond, ◌++◌, map, refl, ap, ◌∙◌, arith}
+use Rattle.std.specs.List.{range_with_len}
 use Rattle.systems.specs.Piles.{cross}
 use Rattle.formulas.specs.Lines.{entries}
 use Rattle.formulas.specs.Append.{table}
 use Rattle.quotient.specs.Layings.{extended}
-use Rattle.quotient.specs.Plans.{plan_nodes, place_in}
+use Rattle.quotient.specs.Plans.{place_in}
 use Rattle.quotient.proofs.Laying.{put_is, lay_step, fill-grows}
-use Rattle.quotient.proofs.Dividing.{all_inside, step_is}
+use Rattle.quotient.proofs.Dividing.{step_is}
 use Rattle.quotient.proofs.plan.Division.put_step.Goals as goal
-
-pub put_move_parts-requires : goal.put_move_parts-requires
-put_move_parts-requires g c =
-    let x = c.args.self.now.plan in
-    let fit = c.requires.fit in
-    let Inside : List ℕ → Type 0 = λ l. AllByRecursion (λ d. d < length (plan_nodes x)) l in
-    record {
-      inside = subst Inside (sym c.entries_of-parts.ensures) (all_inside x _ fit _ fit.right.moves_below);
-      point = omega (arith, c.requires.inside, c.args.self.now.planned.few);
-      small = c.rows_of-rows.ensures.small;
-    }
-
-pub put_here_parts-requires : goal.put_here_parts-requires
-put_here_parts-requires g c =
-    let x = c.args.self.now.plan in
-    let fit = c.requires.fit in
-    let Inside : List ℕ → Type 0 = λ l. AllByRecursion (λ d. d < length (plan_nodes x)) l in
-    record {
-      inside = subst Inside (sym c.entries_of-parts.ensures) (all_inside x _ fit _ fit.right.moves_below);
-      heres = subst Inside (sym c.entries_of-here_parts.ensures) (all_inside x _ fit _ fit.right.here_below);
-      point = omega (arith, c.requires.inside, c.args.self.now.planned.few);
-      small = c.rows_of-rows.ensures.small;
-    }
 
 pub overflow_sub-moves : goal.overflow_sub-moves
 overflow_sub-moves g c =
@@ -50,8 +27,8 @@ overflow_sub-heres g c =
     let small : c.put_move_parts.new.out.fill ≤ 4294967295 = omega arith in
     fill-grows (table c.put_move_parts.new.out) (table c.put_here_parts.new.out) (cond c.contains-shared.result hs (cross at c.entries_of-parts.result.now rows ++ hs)) c.put_here_parts.ensures.wrote small
 
-pub returns : goal.returns
-returns g c =
+pub returns-clause-wrote : goal.returns-clause-wrote
+returns-clause-wrote g c =
     let R = g.S.System.meaning c.args.self.now.system.now in
     let x = c.args.self.now.plan in
     let alts = x.tables.alternatives.now in
@@ -64,13 +41,9 @@ returns g c =
     let before = table c.args.out.now.alternatives.now in
     let middle = table c.put_move_parts.new.out in
     let end = table c.put_here_parts.new.out in
-    let p = c.put.ensures in
     let moved : middle ≡ extended before (cond shared (cross at ms rows) (map here ms)) = c.put_move_parts.ensures.wrote ∙ ap (λ l. extended before (cond shared (cross at l rows) (map here l))) c.entries_of-parts.ensures in
     let stayed : end ≡ extended middle (cond shared (map here hs) (cross at ms rows ++ map here hs)) =
     c.put_here_parts.ensures.wrote
     ∙ ap (λ l. extended middle (cond shared (map here l) (cross at c.entries_of-parts.result.now rows ++ map here l))) c.entries_of-here_parts.ensures
     ∙ ap (λ l. extended middle (cond shared (map here hs) (cross at l rows ++ map here hs))) c.entries_of-parts.ensures in
-    record {
-      same = ((refl, p.same), (refl, refl), (refl, c.put_here_parts.ensures.same ∙ c.put_move_parts.ensures.same));
-      wrote = lay_step (table c.args.out.now.nodes.now) (table c.put.new.self) before middle end c.args.step.action (cond shared (cross at ms rows) (map here ms)) (cond shared (map here hs) (cross at ms rows ++ map here hs)) _ moved stayed (put_is (table c.args.out.now.nodes.now) (table c.put.new.self) _ _ _ refl p.puts) (step_is R x c.args.self.now.planned c.args.step c.args.p rows shared c.contains-shared.ensures c.rows_of-rows.ensures.rows) (table c.args.out.now.terms.now);
-    }
+    lay_step (table c.args.out.now.nodes.now) (table c.put.new.self) before middle end c.args.step.action (cond shared (cross at ms rows) (map here ms)) (cond shared (map here hs) (cross at ms rows ++ map here hs)) _ moved stayed (put_is (table c.args.out.now.nodes.now) (table c.put.new.self) _ _ _ refl c.put.ensures.puts) (step_is R x c.args.self.now.planned c.args.step c.args.p rows shared c.contains-shared.ensures c.rows_of-rows.ensures.rows) (table c.args.out.now.terms.now)

@@ -1,15 +1,8 @@
-use Rattle.std.proofs.Common.{◌≤◌, ◌<◌, [], map, length, refl, ap, ◌∙◌, arith}
-use Rattle.std.proofs.lemmas.List.{take_all}
-use Rattle.quotient.specs.Layings.{filled, lay_all}
+use Rattle.std.proofs.Common.{◌<◌, [], length, arith}
+use Rattle.quotient.specs.Layings.{filled}
 use Rattle.quotient.specs.Plans.{sum_at}
 use Rattle.quotient.proofs.Laying.{lay-each, same-on}
 use Rattle.quotient.proofs.plan.Division.put_sums_on.Goals as goal
-
-pub loop-k-init : goal.loop-k-init
-loop-k-init g c = record { same = ((refl, refl), (refl, refl), (refl, refl)); wrote = refl }
-
-pub put_sum_along-requires : goal.put_sum_along-requires
-put_sum_along-requires g c = record { inside = omega (arith, c.moves-k-end.ensures, c.loop-k-test.true); fit = c.requires.fit; room = omega (arith, c.requires.room, c.loop-k.auto.buffer) }
 
 pub loop-k-preserved : goal.loop-k-preserved
 loop-k-preserved g c =
@@ -20,10 +13,3 @@ loop-k-preserved g c =
       same = same-on c.args.out.now c.loop-k.out c.put_sum_along.new.out h.same c.put_sum_along.ensures.same;
       wrote = lay-each (filled c.args.out.now) (filled c.loop-k.out) (filled c.put_sum_along.new.out) (sum_at c.args.self.now.plan c.args.sum) mvs c.loop-k.k [] within h.wrote c.put_sum_along.ensures.wrote;
     }
-
-pub returns : goal.returns
-returns g c =
-    let mvs = (g.S.System.meaning c.args.self.now.system.now).moves c.args.state c.args.action in
-    let h = c.loop-k.invariant in
-    let end : length mvs ≤ c.loop-k.k = omega (arith, c.moves-k-end.ensures, c.loop-k-test.false) in
-    record { same = h.same; wrote = h.wrote ∙ ap (λ l. lay_all (filled c.args.out.now) (map (sum_at c.args.self.now.plan c.args.sum) l)) (take_all c.loop-k.k mvs end) }
