@@ -1,7 +1,7 @@
 -- Ticks: those asked for, and what the root reaches.
-use Rattle.std.proofs.Common.{◌≡◌, ℕ, ◌+◌, ◌<◌, ◌≤◌, Bool, true, false, cond, ◌||◌, eqb, ◌⊎◌, List, [], ◌∷◌, ◌++◌, length, get_or, take, drop, set, sym, refl, ap, ◌∙◌, inl, inr, arith, length-set}
+use Rattle.std.proofs.Common.{◌≡◌, ℕ, ◌+◌, ◌<◌, Bool, true, false, cond, ◌||◌, eqb, ◌⊎◌, List, [], ◌∷◌, ◌++◌, length, get_or, take, drop, set, sym, refl, ap, ◌∙◌, inl, inr, arith, length-set}
 use Rattle.std.specs.List.{AllByRecursion}
-use Rattle.std.proofs.lemmas.List.{get_or-set_same, get_or-set_other, drop_all, length_push, get_or-take, get_or_push, take_at, take-take}
+use Rattle.std.proofs.lemmas.List.{get_or-set_same, get_or-set_other, length_push, get_or-take, get_or_push, take_at, take-take}
 use Rattle.std.proofs.ByRecursion.{All-weaker}
 use Rattle.std.proofs.lemmas.Bool.{eq-eqb, ne_eqb, cases_eq}
 use Rattle.formulas.specs.Lines.{Line}
@@ -83,9 +83,3 @@ module _ (ls : List Line) (r : List ℕ) (i : ℕ) (h : i < length ls) where
           let f : m' ≡ m = e ∙ ap (λ (x : Bool). cond x (ticked m ps) m) (mark false q) in
           let g : reached i (drop i ls) r ≡ later = reached-back ls r i h ∙ ap (λ (x : Bool). cond x (ps ++ later) later) q in
           ap (λ xs. get_or xs j 0) f ∙ (k j (omega (arith, ap length f)) ∙ ap (λ xs. cond (member j xs) 1 0) (sym g))
-
-pub ticks_start : (ls : List Line) (m : List ℕ) (root n : ℕ) → ((j : ℕ) → get_or m j 0 ≡ 0) → root < length m → length ls ≤ n
-    → Ticks (set m root 1) (reached n (drop n ls) (root ∷ []))
-ticks_start ls m root n z h l j g =
-    ticked-at m (root ∷ []) j (h, tt)
-    ∙ (ap (λ (x : ℕ). cond (member j (root ∷ [])) 1 x) (z j) ∙ ap (λ xs. cond (member j (reached n xs (root ∷ []))) 1 0) (sym (drop_all n ls l)))
