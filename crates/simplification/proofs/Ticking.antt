@@ -11,10 +11,6 @@ use Rattle.simplification.specs.Reaching.{ticked, Ticks}
 use Rattle.simplification.proofs.Prune.{member-append}
 use Rattle.simplification.proofs.InPlace.{reached-back}
 
-pub ticked-append : (m xs ys : List ℕ) → ticked m (xs ++ ys) ≡ ticked (ticked m xs) ys
-ticked-append m [] ys = refl
-ticked-append m (x ∷ xs) ys = ticked-append (set m x 1) xs ys
-
 tick_one : (m : List ℕ) (k j : ℕ) (b : Bool) → k < length m → cond b 1 (get_or (set m k 1) j 0) ≡ cond (eqb k j || b) 1 (get_or m j 0)
 tick_one m k j b h = go b (cases_eq j k)
   where
