@@ -340,6 +340,7 @@ fn settle_node(
 }
 
 // Settles node `i`: what is left of its entries goes to where those of the nodes before it end.
+// It takes slices: of one struct, the nodes could not be read while the entries change.
 fn settle_at(
     i: usize,
     ends: Ends,
