@@ -12,11 +12,12 @@ pub struct Tables<'a> {
     pub alternatives: &'a [u32],
 }
 
-// A formula's tables, lent to be changed.
+// A formula's tables, lent to be changed. Each loan has a lifetime of its own: at one for all, a proof knows nothing of
+// the lender's tables once the loans are over.
 #[derive(Drop)]
-pub struct TablesMut<'a> {
-    pub nodes: &'a mut [Node],
-    pub terms: &'a mut [Term],
+pub struct TablesMut<'n, 't, 'a> {
+    pub nodes: &'n mut [Node],
+    pub terms: &'t mut [Term],
     pub alternatives: &'a mut [u32],
 }
 

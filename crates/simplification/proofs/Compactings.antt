@@ -2,12 +2,12 @@
 use Rattle.std.proofs.Common.{◌≡◌, ℕ, ◌+◌, ◌<◌, ◌≤◌, Bool, true, false, cond, List, [], ◌∷◌, ◌++◌, map, length, get_or, take, set, sym, refl, ap, ◌∙◌, subst, ap₂, ⊎_elim, arith}
 use mathlib.Core.Bool.{false≢true}
 use Rattle.std.specs.List.{AllByRecursion}
-use Rattle.std.proofs.lemmas.List.{append-nil, length-map, length_push, get_or-set_same, get_or-set_other, take_all}
+use Rattle.std.proofs.lemmas.List.{append-nil, length-map, length_push, get_or-set_same, get_or-set_other}
 use Rattle.std.proofs.ByRecursion.{All-weaker}
 use Rattle.std.proofs.lemmas.Bool.{eq-eqb, ne_eqb, cases_eq, cases_lt}
 use Rattle.formulas.specs.declared.node.Fills.{Fills}
 use Rattle.formulas.specs.Lines.{Line, constant, both, non, step, sum, line}
-use Rattle.formulas.specs.Layout.{term_table, alternative_table, fills}
+use Rattle.formulas.specs.Layout.{term_table, alternative_table}
 use Rattle.formulas.specs.Tables.{Slots, laid}
 use Rattle.formulas.specs.WellFormed.{line_at}
 use Rattle.simplification.specs.Simplify.{parts, retarget, renumber, rank}
@@ -19,7 +19,7 @@ use Rattle.simplification.proofs.Lists.{all-front, all_back, all_both, all_of_ma
 use Rattle.simplification.proofs.Outcomes.{Ordered}
 use Rattle.simplification.proofs.Prune.{rank-small}
 use Rattle.simplification.proofs.InPlace.{compact_more, compact_so_far}
-use Rattle.simplification.proofs.Laid.{formed-ordered, AtFront, front_none, front_push}
+use Rattle.simplification.proofs.Laid.{formed-ordered, AtFront, front_push}
 use Rattle.simplification.proofs.Fewer.{compact-terms, compact-alternatives}
 use Rattle.simplification.proofs.Here.{terms-before, alternatives-before, Overlaid, fit-here, line-here}
 
@@ -49,9 +49,6 @@ pub record Compacting (keep : ℕ → Bool) (ls : List Line) (s : Slots) (to : L
   pub count : f.nodes ≡ length (compacted keep (take i ls))
   pub numbered : (j : ℕ) → j < i → keep j ≡ true → get_or to' j 0 ≡ rank keep j
   pub unread : (j : ℕ) → i ≤ j → get_or to' j 0 ≡ get_or to j 0
-
-pub compacting_none : (keep : ℕ → Bool) (ls : List Line) (s : Slots) (to : List ℕ) → Compacting keep ls s to 0 (fills []) s to
-compacting_none keep ls s to = record { front = front_none s; count = refl; numbered = λ j h. absurd (omega arith); unread = λ j h. refl }
 
 module _ (s₀ : Slots) (P : Packed s₀) (to₀ : List ℕ)
     (closed : (i : ℕ) → i < length s₀.nodes → is_ticked to₀ i ≡ true → AllByRecursion (λ j. is_ticked to₀ j ≡ true) (parts (line_at (all_lines s₀) i)))
@@ -147,13 +144,3 @@ module _ (s₀ : Slots) (P : Packed s₀) (to₀ : List ℕ)
             (cases_eq j i);
         unread = λ j q. ap (λ xs. get_or xs j 0) r.numbers ∙ S.unread j (omega arith);
       }
-
--- all lines were looked at
-pub compacting_all : (keep : ℕ → Bool) (s : Slots) (to : List ℕ) (i : ℕ) (f : Fills) (s' : Slots) (to' : List ℕ) → Compacting keep (all_lines s) s to i f s' to' → i ≡ length s.nodes
-    → (s' ≡ laid (compacted keep (all_lines s)) s) × (f ≡ fills (compacted keep (all_lines s))) × ((j : ℕ) → j < length s.nodes → keep j ≡ true → get_or to' j 0 ≡ rank keep j)
-compacting_all keep s to i f s' to' S e =
-    let all : take i (all_lines s) ≡ all_lines s = take_all i (all_lines s) (omega (arith, length-map s.nodes (line s.terms s.alternatives))) in (
-      S.front.tables ∙ ap (λ xs. laid (compacted keep xs) s) all,
-      (λ k. record { nodes = S.count k; terms = S.front.term k; alternatives = S.front.alternative k }) ∙ ap (λ xs. fills (compacted keep xs)) all,
-      λ j g k. S.numbered j (omega arith) k,
-    )

@@ -1,7 +1,7 @@
 -- From the lines to those that the root reaches.
-use Rattle.std.proofs.Common.{◌≡◌, ℕ, ◌<◌, ◌≤◌, Bool, true, false, cond, eqb, List, [], ◌∷◌, length, get_or, replicate, sym, refl, ap, ◌∙◌, ⊎_elim, arith}
+use Rattle.std.proofs.Common.{◌≡◌, ℕ, ◌<◌, ◌≤◌, Bool, true, false, cond, eqb, List, [], ◌∷◌, length, get_or, sym, refl, ap, ◌∙◌, ⊎_elim, arith}
 use Rattle.std.specs.List.{AllByRecursion}
-use Rattle.std.proofs.lemmas.List.{length-map, get_or_past, get_or-replicate, length-replicate}
+use Rattle.std.proofs.lemmas.List.{length-map, get_or_past}
 use Rattle.std.proofs.ByRecursion.{All-weaker}
 use Rattle.std.proofs.lemmas.Bool.{cases_lt, cases_Bool}
 use Rattle.formulas.specs.Lines.{line, Formula}
@@ -61,10 +61,3 @@ module _ (F : Formula) (o : Ordered F.lines) (r : F.root < length F.lines) (to :
 
   pub root_is : (to' : List ℕ) → ((j : ℕ) → j < length F.lines → is_ticked to j ≡ true → get_or to' j 0 ≡ rank (is_ticked to) j) → get_or to' F.root 0 ≡ (prune F).root
   root_is to' numbered = numbered F.root r (ticked-is F.root ∙ kept-root F) ∙ ap (λ (keep : ℕ → Bool). rank keep F.root) ticks_are
-
-pub all_zero : (n j : ℕ) → ◌≡◌ {A = ℕ} (get_or (replicate n 0) j 0) 0
-all_zero n j =
-    ⊎_elim
-    (λ (h : j < n). get_or-replicate {A = ℕ} n j 0 0 h)
-    (λ (h : n ≤ j). get_or_past {X = ℕ} (replicate n 0) j 0 (omega (arith, length-replicate {A = ℕ} n 0)))
-    (cases_lt j n)

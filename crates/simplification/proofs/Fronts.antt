@@ -1,5 +1,5 @@
 -- The front of the tables: what it takes to simplify there, and what is left of the whole tables.
-use Rattle.std.proofs.Common.{◌≡◌, ℕ, ◌-◌, ◌^◌, ◌<◌, ◌≤◌, Bool, true, cond, not, ◌&&◌, leb, List, [], ◌++◌, length, take, drop, replicate, Ok, Err, sym, refl, ap, ◌∙◌, subst, ap₂, arith}
+use Rattle.std.proofs.Common.{◌≡◌, ℕ, ◌-◌, ◌^◌, ◌<◌, ◌≤◌, Bool, true, cond, not, ◌&&◌, leb, List, ◌++◌, length, take, drop, replicate, Ok, Err, sym, refl, ap, ◌∙◌, subst, ap₂, arith}
 use Rattle.std.proofs.lemmas.List.{append_assoc, append-nil, drop_all, take_at, length-map, length-take-le}
 use Rattle.std.proofs.lemmas.Bool.{and_parts, leb-true, le-ltb}
 use Rattle.formulas.specs.declared.node.Fills.{Fills}
@@ -15,8 +15,8 @@ use Rattle.formulas.specs.Tables.{Slots, slots, over, stands_in, lines_in, formu
 use Rattle.formulas.specs.WellFormed.{WellFormed}
 use Rattle.simplification.specs.Simplify.{simplify}
 use Rattle.simplification.specs.Laws.{Settles, Fewer}
-use Rattle.simplification.specs.Tables.{blank_node, blank_term, padded, renewed, Desk, desk, taken_up, Done, done, simplified}
-use Rattle.simplification.specs.Packed.{whole, filled, front_of, Ready}
+use Rattle.simplification.specs.Tables.{blank_node, blank_term, renewed, Desk, desk, taken_up, Done, done, simplified}
+use Rattle.simplification.specs.Packed.{Ready}
 use Rattle.simplification.proofs.Laid.{length-nodes}
 use Rattle.simplification.proofs.Forms.{fitting_formed}
 use Rattle.simplification.proofs.Fewer.{fewer}
@@ -128,22 +128,3 @@ module _ (f : Fills) (root m : ℕ) (s : Slots) (held : stands_in f root m s ≡
       cond (not holds) (done (Err NoFormula) (desk s to))
       (cond short (done (Err Short) (desk s to)) (done (Ok (standing (simplify F))) (taken_up (simplify F) f (desk s to)))) in
       (λ i. done (Ok (e i)) (q i)) ∙ sym (ap₂ chosen held (le-ltb (length to) f.nodes r))
-
--- the front of the tables
-module _ (f : Fills) (root : ℕ) (s : Slots) (to : List ℕ) (R : Ready f root s) (room : f.nodes ≤ length to) where
-  pub front-nodes : length (take f.nodes s.nodes) ≡ f.nodes
-  front-nodes = length-take-le f.nodes s.nodes R.nodes
-
-  pub front-numbers : length (take f.nodes to) ≡ f.nodes
-  front-numbers = length-take-le f.nodes to room
-
-  pub front-left : (s' : Slots) (to' : List ℕ) → s' ≡ filled (simplify (whole root (front_of f s))).lines (front_of f s) → to' ≡ padded (length (take f.nodes to)) 0 []
-      → desk (slots (s'.nodes ++ drop f.nodes s.nodes) (s'.terms ++ drop f.terms s.terms) (s'.alternatives ++ drop f.alternatives s.alternatives)) (to' ++ drop f.nodes to)
-      ≡ taken_up (simplify (formula_at f root s)) f (desk s to)
-  front-left s' to' S N =
-      let L : List Line = (simplify (formula_at f root s)).lines in
-      let n = ap (λ x. x.nodes) S ∙ ap (λ k. padded k blank_node (node_table 0 0 L)) front-nodes in
-      let t = ap (λ x. x.terms) S ∙ ap (λ k. padded k blank_term (term_table L)) (length-take-le f.terms s.terms R.terms) in
-      let a = ap (λ x. x.alternatives) S ∙ ap (λ k. padded k 0 (alternative_table L)) (length-take-le f.alternatives s.alternatives R.alternatives) in
-      let k = N ∙ ap (λ k. padded k 0 []) front-numbers in
-      λ i. desk (slots (n i ++ drop f.nodes s.nodes) (t i ++ drop f.terms s.terms) (a i ++ drop f.alternatives s.alternatives)) (k i ++ drop f.nodes to)

@@ -1,7 +1,7 @@
 -- Lists with some entries put in the place of others.
-use Rattle.std.proofs.Common.{◌≡◌, ℕ, ◌+◌, ◌-◌, ◌<◌, ◌≤◌, Bool, true, false, cond, Option, None, Some, List, [], ◌∷◌, ◌++◌, map, length, get_or, take, drop, set, replicate, filter, sym, refl, ap, ◌∙◌, subst, ap₂, add-zero, arith}
+use Rattle.std.proofs.Common.{◌≡◌, ℕ, ◌+◌, ◌-◌, ◌<◌, ◌≤◌, Bool, true, false, cond, Option, None, Some, List, [], ◌∷◌, ◌++◌, map, length, get_or, take, drop, set, filter, sym, refl, ap, ◌∙◌, subst, ap₂, add-zero, arith}
 use Rattle.std.specs.List.{AllByRecursion, cons_option}
-use Rattle.std.proofs.lemmas.List.{append_assoc, append-nil, length-append, length-map, length_push, length-take-le, length-drop, length-replicate, replicate_more, take-append-drop, take_at, drop_at, drop-drop, drop_all, drop_more, take_more, set_at, get_or-drop, get_or-take}
+use Rattle.std.proofs.lemmas.List.{append_assoc, append-nil, length-append, length-map, length_push, length-take-le, length-drop, take-append-drop, take_at, drop_at, drop-drop, drop_more, take_more, set_at, get_or-drop, get_or-take}
 use Rattle.std.proofs.ByRecursion.{All-get_or}
 use Rattle.std.proofs.lemmas.List.Sums.{length-filter, count_by-le-length}
 use Rattle.formulas.specs.Lines.{part}
@@ -102,29 +102,6 @@ module _ {X : Type 0} where
   pub length_part : (xs : List X) (p n : ℕ) → p + n ≤ length xs → length (part xs p n) ≡ n
   length_part xs p n h = length-take-le n (drop p xs) (omega (arith, length-drop p xs))
 
--- a table filled up with one entry
-module _ {X : Type 0} (old : List X) (p : ℕ) (x : X) where
-  pub fill_none : old ≡ put p (replicate (p - p) x) old
-  fill_none = let e : p - p ≡ 0 = omega arith in ap (λ n. put p (replicate n x) old) (sym e)
-
-  pub fill_more : (xs : List X) (k : ℕ) → p ≤ k → k < length old → xs ≡ put p (replicate (k - p) x) old → set xs k x ≡ put p (replicate ((k + 1) - p) x) old
-  fill_more xs k l h e =
-      let n = k - p in
-      let here : k ≡ p + length (replicate n x) = omega (arith, length-replicate n x) in
-      let next : n + 1 ≡ (k + 1) - p = omega arith in
-      ap₂ (λ (ys : List X) (i : ℕ). set ys i x) e here
-      ∙ (put-more p (replicate n x) old x (omega arith)
-      ∙ ap (λ ys. put p ys old) (replicate_more n x ∙ ap (λ i. replicate i x) next))
-
-  pub fill-all : (xs : List X) (k : ℕ) → p ≤ length old → k ≡ length old → xs ≡ put p (replicate (k - p) x) old → xs ≡ take p old ++ replicate (length old - p) x
-  fill-all xs k l e q =
-      let n = length old - p in
-      let end : length old ≤ p + length (replicate n x) = omega (arith, length-replicate n x) in
-      q
-      ∙ (ap (λ i. put p (replicate (i - p) x) old) e
-      ∙ (put_is p (replicate n x) old
-      ∙ ap (λ ys. take p old ++ ys) (ap (λ ys. replicate n x ++ ys) (drop_all (p + length (replicate n x)) old end) ∙ append-nil (replicate n x))))
-
 -- what R leaves of entries that are looked at one after another
 module _ {X : Type 0} (R : X → Option X → Type 0) where
   pub left-few : (xs ys : List X) → Remains R xs ys → length ys ≤ length xs
@@ -178,12 +155,6 @@ abbrev pub Moving : {X : Type 0} → (X → Option X → Type 0) → List X → 
 Moving R xs ys p s q w = Moved R (part xs p (q - p)) s xs w ys
 
 module _ {X : Type 0} (R : X → Option X → Type 0) (xs : List X) (p s : ℕ) where
-  pub moving-none : Moving R xs xs p s p s
-  moving-none =
-      let none : p - p ≡ 0 = omega arith in
-      let e : part xs p (p - p) ≡ [] = ap (part xs p) none in
-      record { left = []; each = subst (λ l. Remains R l []) (sym e) refl; end = omega arith; is = refl }
-
   module _ (ys : List X) (q w : ℕ) (m : Moving R xs ys p s q w) (past : s ≤ p) (low : p ≤ q) (h : q < length xs) where
     few : length m.left ≤ q - p
     few = omega (arith, left-few R (part xs p (q - p)) m.left m.each, length_part xs p (q - p) (omega arith))

@@ -15,7 +15,7 @@ use Rattle.simplification.specs.Settling.{glance, leaves, Led, SettledAt, left_l
 use Rattle.simplification.proofs.Lists.{grown-length}
 use Rattle.simplification.proofs.Outcomes.{Ordered, outcome, outcome-at, Placed, placed}
 use Rattle.simplification.proofs.Puts.{over_set, length_over}
-use Rattle.simplification.proofs.Laid.{length-nodes, node_at, tone-of_node, formed-ordered, AtFront, front_none, front_push}
+use Rattle.simplification.proofs.Laid.{length-nodes, node_at, tone-of_node, formed-ordered, AtFront, front_push}
 use Rattle.simplification.proofs.Here.{terms-before, alternatives-before, Overlaid, fit-here, line-here}
 use Rattle.simplification.proofs.Leaving.{Alike, leaves_alike, number-alike, left-own}
 use Rattle.simplification.proofs.Fewer.{left-terms, left-alternatives}
@@ -24,9 +24,6 @@ use Rattle.simplification.proofs.Fewer.{left-terms, left-alternatives}
 pub record Settling (ls : List Line) (s : Slots) (to : List ℕ) (i t a : ℕ) (s' : Slots) (to' : List ℕ) : Type 0 where
   pub front : AtFront s (take i (left_lines ls)) s' t a
   pub numbers : to' ≡ over (take i (left_numbers ls)) to
-
-pub settling_none : (ls : List Line) (s : Slots) (to : List ℕ) → Settling ls s to 0 0 0 s to
-settling_none ls s to = record { front = front_none s; numbers = refl }
 
 module _ (s₀ : Slots) (P : Packed s₀) (to₀ : List ℕ) (room : length s₀.nodes ≤ length to₀) (i t a : ℕ) (s : Slots) (to : List ℕ)
     (S : Settling (all_lines s₀) s₀ to₀ i t a s to) (here : i < length s₀.nodes) where

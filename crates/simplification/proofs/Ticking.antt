@@ -1,7 +1,7 @@
 -- Ticks: those asked for, and what the root reaches.
-use Rattle.std.proofs.Common.{◌≡◌, ℕ, ◌+◌, ◌<◌, ◌≤◌, Bool, true, false, cond, ◌||◌, eqb, ◌⊎◌, List, [], ◌∷◌, ◌++◌, length, get_or, take, drop, set, sym, refl, ap, ◌∙◌, inl, inr, arith, length-set}
+use Rattle.std.proofs.Common.{◌≡◌, ℕ, ◌+◌, ◌<◌, Bool, true, false, cond, ◌||◌, eqb, ◌⊎◌, List, [], ◌∷◌, ◌++◌, length, get_or, take, drop, set, sym, refl, ap, ◌∙◌, inl, inr, arith, length-set}
 use Rattle.std.specs.List.{AllByRecursion}
-use Rattle.std.proofs.lemmas.List.{get_or-set_same, get_or-set_other, drop_all, length_push, get_or-take, get_or_push, take_at, take-take}
+use Rattle.std.proofs.lemmas.List.{get_or-set_same, get_or-set_other, length_push, get_or-take, get_or_push, take_at, take-take}
 use Rattle.std.proofs.ByRecursion.{All-weaker}
 use Rattle.std.proofs.lemmas.Bool.{eq-eqb, ne_eqb, cases_eq}
 use Rattle.formulas.specs.Lines.{Line}
@@ -10,10 +10,6 @@ use Rattle.simplification.specs.Simplify.{parts, member, reached}
 use Rattle.simplification.specs.Reaching.{ticked, Ticks}
 use Rattle.simplification.proofs.Prune.{member-append}
 use Rattle.simplification.proofs.InPlace.{reached-back}
-
-pub ticked-append : (m xs ys : List ℕ) → ticked m (xs ++ ys) ≡ ticked (ticked m xs) ys
-ticked-append m [] ys = refl
-ticked-append m (x ∷ xs) ys = ticked-append (set m x 1) xs ys
 
 tick_one : (m : List ℕ) (k j : ℕ) (b : Bool) → k < length m → cond b 1 (get_or (set m k 1) j 0) ≡ cond (eqb k j || b) 1 (get_or m j 0)
 tick_one m k j b h = go b (cases_eq j k)
@@ -83,9 +79,3 @@ module _ (ls : List Line) (r : List ℕ) (i : ℕ) (h : i < length ls) where
           let f : m' ≡ m = e ∙ ap (λ (x : Bool). cond x (ticked m ps) m) (mark false q) in
           let g : reached i (drop i ls) r ≡ later = reached-back ls r i h ∙ ap (λ (x : Bool). cond x (ps ++ later) later) q in
           ap (λ xs. get_or xs j 0) f ∙ (k j (omega (arith, ap length f)) ∙ ap (λ xs. cond (member j xs) 1 0) (sym g))
-
-pub ticks_start : (ls : List Line) (m : List ℕ) (root n : ℕ) → ((j : ℕ) → get_or m j 0 ≡ 0) → root < length m → length ls ≤ n
-    → Ticks (set m root 1) (reached n (drop n ls) (root ∷ []))
-ticks_start ls m root n z h l j g =
-    ticked-at m (root ∷ []) j (h, tt)
-    ∙ (ap (λ (x : ℕ). cond (member j (root ∷ [])) 1 x) (z j) ∙ ap (λ xs. cond (member j (reached n xs (root ∷ []))) 1 0) (sym (drop_all n ls l)))

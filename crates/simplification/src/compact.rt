@@ -45,6 +45,7 @@ fn move_step(
     Placed { node, end }
 }
 
+// Moves the entries of a node of states, and renumbers its parts.
 fn move_state(
     node: StateNode,
     start: u32,
@@ -94,6 +95,7 @@ fn move_sum(
     Placed { node, end }
 }
 
+// The same on distributions: each sort's nodes are an enum of their own.
 fn move_dist(
     node: DistNode,
     start: u32,
@@ -115,6 +117,7 @@ fn move_dist(
     Placed { node, end: start }
 }
 
+// The same for a node of either sort.
 fn move_node(
     node: Node,
     start: Ends,

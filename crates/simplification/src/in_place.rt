@@ -63,6 +63,7 @@ fn tidy(used: Fills, tables: &mut TablesMut, map: &mut [u32])
 }
 
 // Simplifies the formula that fills these tables. The map has an entry for each node.
+// It takes slices: of parts of tables that a struct holds, a caller would not learn what they became.
 fn shrink(
     root: u32,
     nodes: &mut [Node],

@@ -59,6 +59,7 @@ fn tick_state(node: StateNode, alternatives: &[u32], ticks: &mut [u32])
     }
 }
 
+// The same on distributions: each sort's nodes are an enum of their own.
 fn tick_dist(node: DistNode, terms: &[Term], ticks: &mut [u32])
     requires { FitDist (λ d. d < length ticks.old) terms.now 0 node }
     ensures { ticks.new ≡ ticked ticks.old (parts (dist_line terms.now node)) }
@@ -74,6 +75,7 @@ fn tick_dist(node: DistNode, terms: &[Term], ticks: &mut [u32])
     }
 }
 
+// The same for a node of either sort.
 fn tick_node(node: Node, tables: Tables, ticks: &mut [u32])
     requires { Fit (λ d. d < length ticks.old) tables.terms.now tables.alternatives.now 0 0 node }
     ensures { ticks.new ≡ ticked ticks.old (parts (line tables.entry.terms.now tables.entry.alternatives.now node)) }

@@ -132,6 +132,7 @@ pub(crate) struct Turn<N, E> {
     pub placed: Placed<N, E>,
 }
 
+// What is left of a not, by what its part is.
 fn settle_not<N: Plain>(a: u32, before: Before) -> N
     requires { LedBy before a }
     ensures { Bare (N.node result) (non_line N.sort (tone_of (glance_of before.entry) a) (glance_of before.entry a).to) }
@@ -234,6 +235,7 @@ fn settle_sum(
     Placed { node, end }
 }
 
+// What becomes of a node of states.
 fn settle_state(
     i: u32,
     node: StateNode,
@@ -264,7 +266,7 @@ fn settle_state(
     }
 }
 
-// The same on distributions.
+// The same on distributions: each sort's nodes are an enum of their own.
 fn settle_dist(
     i: u32,
     node: DistNode,
@@ -294,6 +296,7 @@ fn settle_dist(
     }
 }
 
+// The same for a node of either sort.
 fn settle_node(
     i: u32,
     node: Node,
@@ -337,6 +340,7 @@ fn settle_node(
 }
 
 // Settles node `i`: what is left of its entries goes to where those of the nodes before it end.
+// It takes slices: of one struct, the nodes could not be read while the entries change.
 fn settle_at(
     i: usize,
     ends: Ends,

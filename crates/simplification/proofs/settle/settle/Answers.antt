@@ -1,11 +1,7 @@
-use Rattle.std.proofs.Common.{refl, ◌∙◌, arith}
+use Rattle.std.proofs.Common.{◌∙◌, arith}
 use Rattle.formulas.specs.Tables.{held}
-use Rattle.simplification.specs.Packed.{all_lines}
-use Rattle.simplification.proofs.Settlings.{settling_none, settling_fits, turn, settled}
+use Rattle.simplification.proofs.Settlings.{settling_fits, turn, settled}
 use Rattle.simplification.proofs.settle.settle.Goals as goal
-
-pub loop-i-init : goal.loop-i-init
-loop-i-init c = (((refl, refl), (refl, refl), (refl, refl)), settling_none (all_lines (held c.args.tables.now)) (held c.args.tables.now) c.args.map.now)
 
 pub settle_at-ends-requires : goal.settle_at-ends-requires
 settle_at-ends-requires c = record {
