@@ -9,7 +9,6 @@ pub mod law;
 pub mod opening;
 pub mod remove;
 mod row;
-mod runs;
 pub mod simplify;
 mod spot;
 mod sum;

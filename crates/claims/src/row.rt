@@ -9,7 +9,6 @@ ghost use Rattle.claims.specs.Rows.{lit_row, Mark, marked, lowest, parts, no_nod
 ghost use Rattle.claims.specs.Boards.{truths_in, Before};
 
 use crate::board::Site;
-use crate::runs::entries_of;
 use formulas::node::{DistNode, Node, Run};
 use systems::system::System;
 
@@ -156,7 +155,7 @@ impl<S: System> Site<'_, '_, S> {
         ensures row { row.new ≡ row.old }
     {
         let tables = self.board.tables;
-        let wanted = entries_of(tables.alternatives, run);
+        let wanted = run.entries(tables.alternatives);
         let span = reach(tables.nodes, wanted, self.board.upto, row);
         self.fill(span, row);
         let answer = some_lit(row, wanted);

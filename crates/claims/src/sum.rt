@@ -6,7 +6,6 @@ ghost use Rattle.claims.specs.Spots.{spot_of};
 ghost use Rattle.claims.specs.Sums.{lit, coefficients_of, ReadyTerms, ReadySum, no_target};
 
 use crate::board::Site;
-use crate::runs::entries_of;
 use formulas::node::{Run, Term};
 use systems::system::System;
 
@@ -40,7 +39,7 @@ impl<S: System> Site<'_, '_, S> {
         ensures { let b = self.entry.board in let M = S.meaning b.system.now in result ≡ nat_le (threshold * M.mass) (total (lit b.truths.bytes.now M.states) (entries b.tables.terms.now run) (spot_of M self.entry.spot)) }
     {
         let tables = self.board.tables;
-        let terms = entries_of(tables.terms, run);
+        let terms = run.entries(tables.terms);
         threshold * self.board.system.mass() <= self.sum_terms(terms)
     }
 }

@@ -1,10 +1,23 @@
 // The entries of a formula's tables.
+ghost use Rattle.std.specs.Prelude.{◌≡◌};
+ghost use Rattle.formulas.specs.Lines.{entries};
 
 // A run of consecutive entries of a table.
 #[derive(Clone, Copy)]
 pub struct Run {
     pub first: u32,
     pub count: u32,
+}
+
+impl Run {
+    // The entries of the run; of a table that ends before it, those that are there.
+    pub fn entries<T>(self, table: &[T]) -> &[T]
+        ensures { result.now ≡ entries table.now self }
+    {
+        let first = table.len().min(self.first as usize);
+        let end = table.len().min(first + self.count as usize);
+        &table[first..end]
+    }
 }
 
 // A term of a sum: how much the states that satisfy a node count.

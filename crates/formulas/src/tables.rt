@@ -1,6 +1,6 @@
 // The tables that a formula stands in.
 ghost use Rattle.std.specs.Prelude.{◌≡◌, take};
-ghost use Rattle.formulas.specs.Tables.{Front};
+ghost use Rattle.formulas.specs.Tables.{contents, held, Front};
 
 use crate::node::{Fills, Node, Term};
 
@@ -19,6 +19,19 @@ pub struct TablesMut<'n, 't, 'a> {
     pub nodes: &'n mut [Node],
     pub terms: &'t mut [Term],
     pub alternatives: &'a mut [u32],
+}
+
+impl TablesMut<'_, '_, '_> {
+    // The tables, to be read.
+    pub fn shared(&self) -> Tables
+        ensures { contents result ≡ held self.now }
+    {
+        Tables {
+            nodes: self.nodes,
+            terms: self.terms,
+            alternatives: self.alternatives,
+        }
+    }
 }
 
 // Where a formula stands in its tables: how much of each it uses, and the number of its root.

@@ -4,7 +4,6 @@
 pub mod divide;
 mod need;
 mod plan;
-mod runs;
 mod write;
 
 ghost use Rattle.quotient.specs.Theorems.{QuotientLaw, QuotientAt, BoundsLaw, OrderLaw, ShapeLaw};

@@ -12,7 +12,6 @@ ghost use Rattle.quotient.specs.Plans.{plan_nodes, place_in, AllInside, Fit, All
 ghost use Rattle.quotient.specs.Quotient.{moves_of};
 
 use crate::plan::{ACTIONS, Division};
-use crate::runs::entries_of;
 use formulas::append::AppendList;
 use formulas::node::{DistNode, Node, Run, StateNode, Term};
 use systems::system::{System, Target};
@@ -144,8 +143,8 @@ impl<'a, S: System> Division<'a, S> {
         let alternatives = self.plan.tables.alternatives;
         let shared = self.plan.shared.contains(step.action);
         let rows = self.rows_of(p, step.action);
-        let parts = entries_of(alternatives, step.moves);
-        let here_parts = entries_of(alternatives, step.heres);
+        let parts = step.moves.entries(alternatives);
+        let here_parts = step.heres.entries(alternatives);
         let first = out.alternatives.fill;
         self.put_move_parts(shared, parts, p, rows, out.alternatives);
         let middle = out.alternatives.fill;
@@ -213,7 +212,7 @@ impl<'a, S: System> Division<'a, S> {
         ensures wrote { filled out.new ≡ lay (filled out.old) (sum_at self.now.plan sum targets.now) }
     {
         let first = out.terms.fill;
-        let parts = entries_of(self.plan.tables.terms, sum.terms);
+        let parts = sum.terms.entries(self.plan.tables.terms);
         self.put_terms(targets, parts, out.terms);
         let end = out.terms.fill;
         out.nodes.put(Node::Dist(DistNode::Sum {

@@ -13,17 +13,6 @@ use formulas::refusal::Refusal;
 use formulas::stands::{formula_in, layout_stands, tables_stand};
 use formulas::tables::{Standing, Tables, TablesMut};
 
-// The tables, to be read.
-fn shared<'a>(tables: &'a TablesMut<'_>) -> Tables<'a>
-    ensures { contents result ≡ held tables.now }
-{
-    Tables {
-        nodes: tables.nodes,
-        terms: tables.terms,
-        alternatives: tables.alternatives,
-    }
-}
-
 // Drops the nodes that the root does not reach.
 fn cut(root: u32, tables: &mut TablesMut, map: &mut [u32]) -> Standing
     requires packed { Packed (held tables.old) }
@@ -34,7 +23,7 @@ fn cut(root: u32, tables: &mut TablesMut, map: &mut [u32]) -> Standing
     ensures tables { held tables.new ≡ laid (prune (whole root (held tables.old))).lines (held tables.old) }
 {
     map.fill(0);
-    reach(root, shared(tables), map);
+    reach(root, tables.shared(), map);
     let fills = compact(tables, map);
     Standing {
         fills,
@@ -127,7 +116,7 @@ pub fn simplify_in_place(
     ensures fewer { NoMore standing.fills result }
     ensures settled { SettlesIn (held tables.new) result }
 {
-    if !formula_in(standing, mass, shared(tables)) {
+    if !formula_in(standing, mass, tables.shared()) {
         return Err(Refusal::NoFormula);
     }
     if map.len() < standing.fills.nodes as usize {

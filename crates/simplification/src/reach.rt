@@ -9,7 +9,6 @@ ghost use Rattle.simplification.specs.Moving.{FitStep, FitSum, FitState, FitDist
 ghost use Rattle.simplification.specs.Reaching.{ticked, Ticks};
 
 use crate::entry::Entry;
-use crate::runs::entries_of;
 use formulas::node::{DistNode, Node, Run, StateNode, Term};
 use formulas::tables::Tables;
 
@@ -31,8 +30,8 @@ fn tick_step(moves: Run, heres: Run, alternatives: &[u32], ticks: &mut [u32])
     requires { FitStep (λ d. d < length ticks.old) alternatives.now 0 moves heres }
     ensures { ticks.new ≡ ticked ticks.old (entries alternatives.now moves ++ entries alternatives.now heres) }
 {
-    tick_all(entries_of(alternatives, moves), ticks);
-    tick_all(entries_of(alternatives, heres), ticks);
+    tick_all(moves.entries(alternatives), ticks);
+    tick_all(heres.entries(alternatives), ticks);
 }
 
 // Ticks the nodes of a sum.
@@ -40,7 +39,7 @@ fn tick_sum(run: Run, terms: &[Term], ticks: &mut [u32])
     requires { FitSum (λ d. d < length ticks.old) terms.now 0 run }
     ensures { ticks.new ≡ ticked ticks.old (map (λ k. k.node) (entries terms.now run)) }
 {
-    tick_all(entries_of(terms, run), ticks);
+    tick_all(run.entries(terms), ticks);
 }
 
 // Ticks the parts of a node.

@@ -6,15 +6,6 @@ ghost use Rattle.simplification.specs.Moving.{Moved};
 
 use formulas::node::Run;
 
-// The entries of a run.
-pub(crate) fn entries_of<'a, T>(table: &'a [T], run: Run) -> &'a [T]
-    requires { run.first + run.count ≤ length table.now }
-    ensures { result.now ≡ entries table.now run }
-{
-    let first = run.first as usize;
-    &table[first..first + run.count as usize]
-}
-
 // Moves what is left of each entry of a run down to `start`, and says where that ends.
 pub(crate) fn move_run<T: Copy, F: Fn(T) -> Option<T>>(
     table: &mut [T],

@@ -11,7 +11,7 @@ ghost use Rattle.simplification.specs.Settling.{shade, glance_of, both_left, lea
 
 use crate::placed::{Ends, Placed};
 use crate::plain::Plain;
-use crate::runs::{entries_of, move_run};
+use crate::runs::move_run;
 use formulas::node::{DistNode, Node, Run, StateNode, Term};
 use formulas::tables::TablesMut;
 
@@ -172,7 +172,7 @@ fn settle_step(
     requires { FitStep (LedBy before) alternatives.old start moves heres }
     ensures { StateAt (leaves (glance_of before.entry) (step action (entries alternatives.old moves) (entries alternatives.old heres))) start alternatives.old result.node result.end alternatives.new }
 {
-    if before.some_yes(entries_of(alternatives, heres)) {
+    if before.some_yes(heres.entries(alternatives)) {
         return Placed {
             node: StateNode::Yes,
             end: start,
@@ -211,7 +211,7 @@ fn settle_sum(
     requires { FitSum (LedBy before) terms.old start run }
     ensures { DistAt (leaves (glance_of before.entry) (sum threshold (entries terms.old run))) start terms.old result.node result.end terms.new }
 {
-    let rest = weigh(entries_of(terms, run), threshold, before);
+    let rest = weigh(run.entries(terms), threshold, before);
     if rest.threshold == 0 {
         return Placed {
             node: DistNode::Yes,

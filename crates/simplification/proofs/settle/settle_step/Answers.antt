@@ -41,7 +41,7 @@ returns c =
     (All-weaker (LedBy c.args.before) _ (λ d h o r. search rules) (entries c.move_run-middle.new.table h) (subst (AllByRecursion (LedBy c.args.before)) (sym same) c.requires.heres)) in
     let all = both-moved (alternatives_left E) xs c.move_run-middle.new.table mv h c.args.start short c.requires.past c.requires.next c.requires.within first.1
     c.move_run-end.new.table c.move_run-middle.result first.0 then.1 in
-    let none = ap (has_yes E) (sym c.entries_of.ensures) ∙ (sym c.some_yes.ensures ∙ c.if-some_yes.false) in
+    let none = ap (has_yes E) (sym c.entries.ensures) ∙ (sym c.some_yes.ensures ∙ c.if-some_yes.false) in
     let step = stepped c.args.action c.args.start c.move_run-middle.result c.move_run-end.result ms hs (has_yes E (entries xs h))
     first.0 (then.0 ∙ ap (λ ds. c.move_run-middle.result + length (alternatives_left E ds)) same) c.if-end-start.false none in
     record { is = step.is; end = step.end; alternatives = all ∙ ap (λ ds. put c.args.start ds xs) step.all }
@@ -62,7 +62,7 @@ returns-then-end-start c =
     (All-weaker (LedBy c.args.before) _ (λ d h o r. search rules) (entries c.move_run-middle.new.table h) (subst (AllByRecursion (LedBy c.args.before)) (sym same) c.requires.heres)) in
     let all = both-moved (alternatives_left E) xs c.move_run-middle.new.table mv h c.args.start short c.requires.past c.requires.next c.requires.within first.1
     c.move_run-end.new.table c.move_run-middle.result first.0 then.1 in
-    let none = ap (has_yes E) (sym c.entries_of.ensures) ∙ (sym c.some_yes.ensures ∙ c.if-some_yes.false) in
+    let none = ap (has_yes E) (sym c.entries.ensures) ∙ (sym c.some_yes.ensures ∙ c.if-some_yes.false) in
     let step = stepped-none c.args.action c.args.start c.move_run-middle.result c.move_run-end.result ms hs (has_yes E (entries xs h))
     first.0 (then.0 ∙ ap (λ ds. c.move_run-middle.result + length (alternatives_left E ds)) same) c.if-end-start.true none in
     record { is = step.is; end = step.end; alternatives = all ∙ ap (λ ds. put c.args.start ds xs) step.all }

@@ -8,7 +8,7 @@ use Rattle.simplification.proofs.Puts.{moved-is}
 use Rattle.simplification.proofs.settle.settle_sum.Goals as goal
 
 pub weigh-rest-requires : goal.weigh-rest-requires
-weigh-rest-requires c = subst (AllByRecursion (λ k. LedBy c.args.before k.node)) (sym c.entries_of.ensures) c.requires.parts
+weigh-rest-requires c = subst (AllByRecursion (λ k. LedBy c.args.before k.node)) (sym c.entries.ensures) c.requires.parts
 
 pub returns : goal.returns
 returns c =

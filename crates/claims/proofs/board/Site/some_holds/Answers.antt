@@ -15,7 +15,7 @@ reach-span-requires g c =
     let b = c.args.self.board in
     record {
       parted = sits_parted (g.S.System.meaning b.system.now) b.tables b.known.sits;
-      before = subst (AllByRecursion (λ d. d < b.upto)) (sym c.entries_of-wanted.ensures) c.requires.run.below;
+      before = subst (AllByRecursion (λ d. d < b.upto)) (sym c.entries-wanted.ensures) c.requires.run.below;
       nodes = b.known.nodes;
       blank = c.requires.blank;
     }
@@ -37,11 +37,11 @@ returns g c =
     let M = g.S.System.meaning b.system.now in
     let mv = spot_of M c.args.self.spot in
     let T = truths_in M b.tables in
-    let wanted = c.entries_of-wanted.result.now in
+    let wanted = c.entries-wanted.result.now in
     let span = c.reach-span.result in
     let same : length c.fill.new.row ≡ length c.args.row.now = omega (arith, c.reach-span.auto.row, c.fill.auto.row) in
     let long : span.high ≤ length c.fill.new.row = omega (arith, same, c.reach-span.ensures.top, c.requires.blank.long) in
     record {
-      value = reached-any b.tables.nodes.now wanted c.args.row.now c.reach-span.new.row c.fill.new.row b.upto span.low span.high c.requires.blank c.reach-span.ensures T mv c.fill.ensures _ c.some_lit-answer.ensures ∙ ap (any (λ d. of_node T d mv)) c.entries_of-wanted.ensures;
+      value = reached-any b.tables.nodes.now wanted c.args.row.now c.reach-span.new.row c.fill.new.row b.upto span.low span.high c.requires.blank c.reach-span.ensures T mv c.fill.ensures _ c.some_lit-answer.ensures ∙ ap (any (λ d. of_node T d mv)) c.entries-wanted.ensures;
       row = reached_clear b.tables.nodes.now wanted c.args.row.now c.reach-span.new.row c.fill.new.row b.upto span.low span.high c.requires.blank c.reach-span.ensures T mv c.fill.ensures _ c.fill-2.new.self same refl (c.fill-2.ensures.after (λ y e. e) ∙ ap (λ n. replicate n 0) (length-take-le _ _ (omega (arith, long, length-drop span.low c.fill.new.row))));
     }

@@ -14,7 +14,7 @@ overflow_sub-moves g c =
     let at = place_in c.args.self.now.plan in
     let here : ℕ → ℕ = λ d. at d c.args.p in
     let rows = range_with_len c.rows_of-rows.result.first c.rows_of-rows.result.count in
-    let ms = c.entries_of-parts.result.now in
+    let ms = c.entries-parts.result.now in
     let small : c.args.out.now.alternatives.now.fill ≤ 4294967295 = omega arith in
     fill-grows (table c.args.out.now.alternatives.now) (table c.put_move_parts.new.out) (cond c.contains-shared.result (cross at ms rows) (map here ms)) c.put_move_parts.ensures.wrote small
 
@@ -23,9 +23,9 @@ overflow_sub-heres g c =
     let at = place_in c.args.self.now.plan in
     let here : ℕ → ℕ = λ d. at d c.args.p in
     let rows = range_with_len c.rows_of-rows.result.first c.rows_of-rows.result.count in
-    let hs = map here c.entries_of-here_parts.result.now in
+    let hs = map here c.entries-here_parts.result.now in
     let small : c.put_move_parts.new.out.fill ≤ 4294967295 = omega arith in
-    fill-grows (table c.put_move_parts.new.out) (table c.put_here_parts.new.out) (cond c.contains-shared.result hs (cross at c.entries_of-parts.result.now rows ++ hs)) c.put_here_parts.ensures.wrote small
+    fill-grows (table c.put_move_parts.new.out) (table c.put_here_parts.new.out) (cond c.contains-shared.result hs (cross at c.entries-parts.result.now rows ++ hs)) c.put_here_parts.ensures.wrote small
 
 pub returns-clause-wrote : goal.returns-clause-wrote
 returns-clause-wrote g c =
@@ -41,9 +41,9 @@ returns-clause-wrote g c =
     let before = table c.args.out.now.alternatives.now in
     let middle = table c.put_move_parts.new.out in
     let end = table c.put_here_parts.new.out in
-    let moved : middle ≡ extended before (cond shared (cross at ms rows) (map here ms)) = c.put_move_parts.ensures.wrote ∙ ap (λ l. extended before (cond shared (cross at l rows) (map here l))) c.entries_of-parts.ensures in
+    let moved : middle ≡ extended before (cond shared (cross at ms rows) (map here ms)) = c.put_move_parts.ensures.wrote ∙ ap (λ l. extended before (cond shared (cross at l rows) (map here l))) c.entries-parts.ensures in
     let stayed : end ≡ extended middle (cond shared (map here hs) (cross at ms rows ++ map here hs)) =
     c.put_here_parts.ensures.wrote
-    ∙ ap (λ l. extended middle (cond shared (map here l) (cross at c.entries_of-parts.result.now rows ++ map here l))) c.entries_of-here_parts.ensures
-    ∙ ap (λ l. extended middle (cond shared (map here hs) (cross at l rows ++ map here hs))) c.entries_of-parts.ensures in
+    ∙ ap (λ l. extended middle (cond shared (map here l) (cross at c.entries-parts.result.now rows ++ map here l))) c.entries-here_parts.ensures
+    ∙ ap (λ l. extended middle (cond shared (map here hs) (cross at l rows ++ map here hs))) c.entries-parts.ensures in
     lay_step (table c.args.out.now.nodes.now) (table c.put.new.self) before middle end c.args.step.action (cond shared (cross at ms rows) (map here ms)) (cond shared (map here hs) (cross at ms rows ++ map here hs)) _ moved stayed (put_is (table c.args.out.now.nodes.now) (table c.put.new.self) _ _ _ refl c.put.ensures.puts) (step_is R x c.args.self.now.planned c.args.step c.args.p rows shared c.contains-shared.ensures c.rows_of-rows.ensures.rows) (table c.args.out.now.terms.now)

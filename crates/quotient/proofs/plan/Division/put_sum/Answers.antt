@@ -11,12 +11,12 @@ use Rattle.quotient.proofs.plan.Division.put_sum.Goals as goal
 pub put_terms-requires-clause-terms : goal.put_terms-requires-clause-terms
 put_terms-requires-clause-terms g c =
     let Light : List Term → Type 0 = λ l. AllByRecursion (LightTerm c.args.self.now.plan) l in
-    subst Light (sym c.entries_of-parts.ensures) (light-terms c.args.self.now.plan c.args.sum c.requires.fit)
+    subst Light (sym c.entries-parts.ensures) (light-terms c.args.self.now.plan c.args.sum c.requires.fit)
 
 pub overflow_sub-end : goal.overflow_sub-end
 overflow_sub-end g c =
     let small : c.args.out.now.terms.now.fill ≤ 4294967295 = omega arith in
-    fill-grows (table c.args.out.now.terms.now) (table c.put_terms.new.out) (cross (term_at c.args.self.now.plan) c.entries_of-parts.result.now c.args.targets.now) c.put_terms.ensures.wrote small
+    fill-grows (table c.args.out.now.terms.now) (table c.put_terms.new.out) (cross (term_at c.args.self.now.plan) c.entries-parts.result.now c.args.targets.now) c.put_terms.ensures.wrote small
 
 pub overflow_mul-sum : goal.overflow_mul-sum
 overflow_mul-sum g c = omega (arith, light-threshold c.args.self.now.plan c.args.sum c.requires.fit)
