@@ -11,9 +11,12 @@ use crate::fault::GrammarFault;
 use crate::lexer::{Start, another, expect, number, start_prob, start_sum, start_term};
 use crate::node::{DistNode, Fills, Node, Run, StateNode, Term};
 use crate::sort::Sort;
-use crate::summands::Summands;
 use crate::token::{Lexeme, Token};
 use crate::words::Words;
+use arrayvec::ArrayVec;
+
+// The terms of a sum, of which there are eight at most.
+type Summands = ArrayVec<Term, 8>;
 
 const MOST_ACTION: u64 = 31;
 // The largest threshold, and the largest sum of coefficients.
@@ -193,7 +196,7 @@ impl Reader<'_, '_> {
         let summands = self.sum(room)?;
         let threshold = number(&mut self.words, 0, THOUSAND)?;
         expect(&mut self.words, Token::Close)?;
-        let found = &summands.terms[..summands.count];
+        let found = summands.as_slice();
         let first = put_all(self.terms, &mut self.fills.terms, found);
         let sum = DistNode::Sum {
             threshold,
@@ -212,7 +215,7 @@ impl Reader<'_, '_> {
         ensures took { Parses 1 (a_sum room) Summed self.old result self.new }
     {
         match start_sum(&mut self.words, room)? {
-            None => Ok(Summands::none()),
+            None => Ok(Summands::new()),
             Some(head) => self.sum_inside(room - 1, head),
         }
     }
@@ -235,7 +238,7 @@ impl Reader<'_, '_> {
         ensures took { Parses 1 (one_product room) Summed self.old result self.new }
     {
         let term = self.product(room, THOUSAND)?;
-        let mut found = Summands::none();
+        let mut found = Summands::new();
         found.push(term);
         Ok(found)
     }
@@ -245,9 +248,9 @@ impl Reader<'_, '_> {
         ensures lent { SameTables self.old self.new }
         ensures took { Parses 0 (products_from room 0 1000) Summed self.old result self.new }
     {
-        let mut found = Summands::none();
+        let mut found = Summands::new();
         let mut left = THOUSAND;
-        while let Some(x) = another(&mut self.words, found.count)? {
+        while let Some(x) = another(&mut self.words, found.len())? {
             let term = self.element(room, x, left)?;
             left -= term.coefficient;
             found.push(term);

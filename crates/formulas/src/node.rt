@@ -8,7 +8,7 @@ pub struct Run {
 }
 
 // A term of a sum: how much the states that satisfy a node count.
-#[derive(Clone, Copy)]
+#[derive(Clone, Copy, Default)]
 pub struct Term {
     pub coefficient: u64,
     pub node: u32,

@@ -1,7 +1,7 @@
-use Rattle.std.proofs.Common.{refl, arith, rules}
+use Rattle.std.proofs.Common.{length, refl, ap, arith, rules}
 use Rattle.formulas.proofs.Parsing.{term-starts, sum_starts_as, quantity_starts, element_full, element_open, number-within}
 use Rattle.formulas.proofs.Storing.{put_as, leaf-wrote, neg-wrote, conj-wrote, dia-wrote, here-wrote, at_least_wrote, none_summed, one_summed}
-use Rattle.formulas.proofs.Summing.{partly_none, partly_end, partly_stopped, partly_refused, partly_more}
+use Rattle.formulas.proofs.Summing.{another_as, partly_none, partly_end, partly_stopped, partly_refused, partly_more}
 use Rattle.formulas.proofs.Taking.{nothing_read, refused-first, known, as_if, stopped, and_so, and_as, and_then}
 use Rattle.formulas.proofs.grammar.Reader.+readers.Goals as goal
 
@@ -47,7 +47,7 @@ here-returns-clause-took t c =
 
 pub at_least-returns-clause-took : goal.at_least-returns-clause-took
 at_least-returns-clause-took t c =
-    and_then _ c.in_ok-summands.ensures.took (λ ks q. and_so _ c.in_ok-threshold.ensures (and_so _ c.in_ok-expect.ensures (nothing_read (at_least_wrote q c.put_all-first.ensures c.put.ensures))))
+    and_then _ c.in_ok-summands.ensures.took (λ ks q. and_so _ c.in_ok-threshold.ensures (and_so _ c.in_ok-expect.ensures (nothing_read (at_least_wrote q c.as_slice-found.ensures.value c.put_all-first.ensures c.put.ensures))))
 
 pub sum-returns-in_err-start_sum-clause-took : goal.sum-returns-in_err-start_sum-clause-took
 sum-returns-in_err-start_sum-clause-took t c =
@@ -55,7 +55,7 @@ sum-returns-in_err-start_sum-clause-took t c =
 
 pub sum-returns-in-None-clause-took : goal.sum-returns-in-None-clause-took
 sum-returns-in-None-clause-took t c =
-    as_if (sum_starts_as _) (and_as _ c.in_ok-start_sum.ensures c.in-None.is (nothing_read (none_summed c.none.ensures)))
+    as_if (sum_starts_as _) (and_as _ c.in_ok-start_sum.ensures c.in-None.is (nothing_read (none_summed c.new.ensures)))
 
 pub sum-returns-in-Some-clause-took : goal.sum-returns-in-Some-clause-took
 sum-returns-in-Some-clause-took t c =
@@ -63,7 +63,7 @@ sum-returns-in-Some-clause-took t c =
 
 pub single-returns-clause-took : goal.single-returns-clause-took
 single-returns-clause-took t c =
-    and_then _ c.in_ok-term.ensures.took (λ k f. nothing_read (one_summed (none_summed c.none-found.ensures) f (omega (arith, c.none-found.ensures)) c.push.ensures.count c.push.ensures.terms))
+    and_then _ c.in_ok-term.ensures.took (λ k f. nothing_read (one_summed (none_summed c.new-found.ensures) f (let z = ap length c.new-found.ensures in omega arith) c.push.ensures.items))
 
 pub element-returns-then-room-eq0-clause-took : goal.element-returns-then-room-eq0-clause-took
 element-returns-then-room-eq0-clause-took t c =
@@ -98,19 +98,19 @@ quantity-returns-clause-took t c =
     as_if (quantity_starts _) (and_so _ c.in_ok-start_prob.ensures (and_then _ c.in_ok-node.ensures.took (λ s w. and_so _ c.in_ok-expect.ensures (nothing_read w))))
 
 pub several-loop-x-init : goal.several-loop-x-init
-several-loop-x-init t c = (search rules, partly_none c.none-found.ensures refl)
+several-loop-x-init t c = (search rules, partly_none c.new-found.ensures refl)
 
 pub several-loop-x-preserved : goal.several-loop-x-preserved
-several-loop-x-preserved t c = (search rules, partly_more c.loop-x.invariant.1 (known c.in_ok-x.ensures c.in-Some.is) c.in_ok-term.ensures.took c.push.ensures.count c.push.ensures.terms refl)
+several-loop-x-preserved t c = (search rules, partly_more c.loop-x.invariant.1 (another_as c.len.ensures.value (known c.in_ok-x.ensures c.in-Some.is)) c.in_ok-term.ensures.took c.push.ensures.items refl)
 
 pub several-returns-in_err-x-clause-took : goal.several-returns-in_err-x-clause-took
 several-returns-in_err-x-clause-took t c =
-    partly_stopped c.loop-x.invariant.1 _ c.in_err-x.ensures c.from_residual.ensures
+    partly_stopped c.loop-x.invariant.1 _ (another_as c.len.ensures.value c.in_err-x.ensures) c.from_residual.ensures
 
 pub several-returns-in_err-term-clause-took : goal.several-returns-in_err-term-clause-took
 several-returns-in_err-term-clause-took t c =
-    partly_refused c.loop-x.invariant.1 (known c.in_ok-x.ensures c.in-Some.is) _ c.in_err-term.ensures.took c.from_residual-in_err-term.ensures
+    partly_refused c.loop-x.invariant.1 (another_as c.len.ensures.value (known c.in_ok-x.ensures c.in-Some.is)) _ c.in_err-term.ensures.took c.from_residual-in_err-term.ensures
 
 pub several-returns-clause-took : goal.several-returns-clause-took
 several-returns-clause-took t c =
-    partly_end c.loop-x.invariant.1 (known c.in_ok-x.ensures c.in_default.is)
+    partly_end c.loop-x.invariant.1 (another_as c.len.ensures.value (known c.in_ok-x.ensures c.in_default.is))
