@@ -1,10 +1,7 @@
-use Rattle.std.proofs.Common.{◌≡◌, ℕ, ◌+◌, ◌<◌, ◌≤◌, List, [], ◌∷◌, length, get_or, drop, sym, refl, ap, ◌∙◌, subst, add-one, arith, drop-cons}
-use Rattle.std.proofs.lemmas.List.{drop_all}
+use Rattle.std.proofs.Common.{◌≡◌, ℕ, ◌<◌, ◌≤◌, List, length, drop}
 use Rattle.formulas.specs.declared.words.Mode.{Mode}
 use Rattle.formulas.specs.declared.words.Mode.TheVariants.{Between, InWord, InComment}
-use Rattle.formulas.specs.declared.words.Turn.{Turn}
-use Rattle.formulas.specs.declared.words.Turn.TheVariants.{Go, Close, Alone}
-use Rattle.formulas.specs.Words.{Kind, Kind.blank, Kind.newline, Kind.paren, Kind.semi, Kind.plain, kind, words, onward, turned, after, ended}
+use Rattle.formulas.specs.Words.{words, onward}
 
 -- a word that the scan is in began at or after p, lies before the scan and within n bytes
 abbrev pub Begun : Mode → ℕ → ℕ → ℕ → Type 0

@@ -1,5 +1,5 @@
 -- What the term readers do to the three tables that they fill.
-use Rattle.std.specs.Prelude.{◌≡◌, ℕ, ◌+◌, ◌<◌, ◌≤◌, List, [], ◌∷◌, length, take, Result}
+use Rattle.std.specs.Prelude.{◌≡◌, ℕ, ◌+◌, ◌<◌, ◌≤◌, List, length, Result}
 use Rattle.arrayvec.specs.ArrayVec.{ArrayVec}
 use Rattle.formulas.specs.declared.append.AppendList.{AppendList}
 use Rattle.formulas.specs.declared.fault.GrammarFault.{GrammarFault}
