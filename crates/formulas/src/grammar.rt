@@ -54,7 +54,7 @@ pub(crate) struct Reader<'t, 'a> {
 }
 
 impl Reader<'_, '_> {
-    // A state term: answers the number of its node.
+    // A state term: answers the number of its node. The readers of the two sorts call each other, so each sort has its own.
     #[cycle(readers)]
     pub(crate) fn state_term(&mut self, room: u32) -> Result<u32, GrammarFault>
         ensures lent { SameTables self.old self.new }

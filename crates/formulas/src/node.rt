@@ -36,7 +36,7 @@ pub enum DistNode {
     Sum { threshold: u64, terms: Run },
 }
 
-// A node is of the state sort or of the distribution sort.
+// A node is of the state sort or of the distribution sort. Each sort has an enum of its own, so that no node has a kind of the other.
 #[derive(Clone, Copy)]
 pub enum Node {
     State(StateNode),

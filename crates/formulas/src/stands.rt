@@ -69,6 +69,7 @@ impl Place<'_> {
     fn all_terms(&self, parts: &[Term]) -> bool
         ensures { result ≡ terms_ok self.now.tables.nodes.now self.now.i (1000 * self.now.mass) parts.now }
     {
+        // A loop and no chain: what is left falls from term to term.
         let mut left = self.limit();
         for t in parts {
             if !self.term(left, *t) {

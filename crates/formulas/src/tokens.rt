@@ -24,7 +24,7 @@ pub fn numeral(word: &[u8]) -> Option<u32>
     Some(value as u32)
 }
 
-// Which word of the language it is.
+// Which word of the language it is. The reserved words stand in one match.
 pub fn token(word: &[u8]) -> Option<Token>
     ensures { result ≡ token_of word.now }
 {
