@@ -1,6 +1,6 @@
 // Terms, as they are written to the three tables: each node when its term closes, and its terms or alternatives with it.
 // `room` more parentheses may open.
-ghost use Rattle.std.specs.Prelude.{◌≡◌, [], ◌∷◌};
+ghost use Rattle.std.specs.Prelude.{◌≡◌};
 ghost use Rattle.formulas.specs.Lines.{Sort.state, Sort.dist};
 ghost use Rattle.formulas.specs.Productions.{sort_of, a_term, inside, pair, negation, diamond as a_diamond, standing, a_sum, threshold as a_threshold, a_quantity, sum_inside, a_product, one_product, products as products_from, an_element};
 ghost use Rattle.formulas.specs.Append.{upto, Puts};
@@ -22,18 +22,8 @@ const MOST_ACTION: u64 = 31;
 // The largest threshold, and the largest sum of coefficients.
 const THOUSAND: u64 = 1000;
 
-// Puts an entry behind the filled part of a table, and answers its place.
-fn put<T: Drop>(slots: &mut [T], fill: &mut u32, x: T) -> u32
-    ensures { Puts (upto slots.old fill.old) (x ∷ []) result (upto slots.new fill.new) }
-{
-    let mut list = AppendList { slots, fill: *fill };
-    let at = list.put(x);
-    *fill = list.fill;
-    at
-}
-
-// The same for several entries.
-fn put_all<T: Copy>(slots: &mut [T], fill: &mut u32, entries: &[T]) -> u32
+// Puts entries behind the filled part of a table, and answers the place of the first.
+fn put<T: Copy>(slots: &mut [T], fill: &mut u32, entries: &[T]) -> u32
     ensures { Puts (upto slots.old fill.old) entries.now result (upto slots.new fill.new) }
 {
     let mut list = AppendList { slots, fill: *fill };
@@ -64,7 +54,7 @@ impl Reader<'_, '_> {
             Start::Constant(yes) => Ok(put(
                 self.nodes,
                 &mut self.fills.nodes,
-                Sort::State.constant(yes),
+                &[Sort::State.constant(yes)],
             )),
             Start::Inside(head) => self.state_inside(room - 1, head),
         }
@@ -93,7 +83,7 @@ impl Reader<'_, '_> {
         let action = number(&mut self.words, 0, MOST_ACTION)?;
         let d = self.dist_term(room)?;
         expect(&mut self.words, Token::Close)?;
-        let first = put(self.alternatives, &mut self.fills.alternatives, d);
+        let first = put(self.alternatives, &mut self.fills.alternatives, &[d]);
         let step = StateNode::Step {
             action: action as u32,
             moves: Run { first, count: 1 },
@@ -102,7 +92,7 @@ impl Reader<'_, '_> {
                 count: 0,
             },
         };
-        Ok(put(self.nodes, &mut self.fills.nodes, Node::State(step)))
+        Ok(put(self.nodes, &mut self.fills.nodes, &[Node::State(step)]))
     }
 
     #[cycle(readers)]
@@ -116,13 +106,13 @@ impl Reader<'_, '_> {
             first: self.fills.alternatives,
             count: 0,
         };
-        let first = put(self.alternatives, &mut self.fills.alternatives, d);
+        let first = put(self.alternatives, &mut self.fills.alternatives, &[d]);
         let step = StateNode::Step {
             action: 0,
             moves,
             heres: Run { first, count: 1 },
         };
-        Ok(put(self.nodes, &mut self.fills.nodes, Node::State(step)))
+        Ok(put(self.nodes, &mut self.fills.nodes, &[Node::State(step)]))
     }
 
     // A distribution term: answers the number of its node.
@@ -135,7 +125,7 @@ impl Reader<'_, '_> {
             Start::Constant(yes) => Ok(put(
                 self.nodes,
                 &mut self.fills.nodes,
-                Sort::Dist.constant(yes),
+                &[Sort::Dist.constant(yes)],
             )),
             Start::Inside(head) => self.dist_inside(room - 1, head),
         }
@@ -175,7 +165,7 @@ impl Reader<'_, '_> {
         let a = self.term(sort, room)?;
         let b = self.term(sort, room)?;
         expect(&mut self.words, Token::Close)?;
-        Ok(put(self.nodes, &mut self.fills.nodes, sort.both(a, b)))
+        Ok(put(self.nodes, &mut self.fills.nodes, &[sort.both(a, b)]))
     }
 
     #[cycle(readers)]
@@ -185,7 +175,7 @@ impl Reader<'_, '_> {
     {
         let a = self.term(sort, room)?;
         expect(&mut self.words, Token::Close)?;
-        Ok(put(self.nodes, &mut self.fills.nodes, sort.non(a)))
+        Ok(put(self.nodes, &mut self.fills.nodes, &[sort.non(a)]))
     }
 
     #[cycle(readers)]
@@ -197,7 +187,7 @@ impl Reader<'_, '_> {
         let threshold = number(&mut self.words, 0, THOUSAND)?;
         expect(&mut self.words, Token::Close)?;
         let found = summands.as_slice();
-        let first = put_all(self.terms, &mut self.fills.terms, found);
+        let first = put(self.terms, &mut self.fills.terms, found);
         let sum = DistNode::Sum {
             threshold,
             terms: Run {
@@ -205,7 +195,7 @@ impl Reader<'_, '_> {
                 count: found.len() as u32,
             },
         };
-        Ok(put(self.nodes, &mut self.fills.nodes, Node::Dist(sum)))
+        Ok(put(self.nodes, &mut self.fills.nodes, &[Node::Dist(sum)]))
     }
 
     // The sum of a threshold: its terms are kept until the threshold closes.

@@ -47,7 +47,7 @@ here-returns-clause-took t c =
 
 pub at_least-returns-clause-took : goal.at_least-returns-clause-took
 at_least-returns-clause-took t c =
-    and_then _ c.in_ok-summands.ensures.took (λ ks q. and_so _ c.in_ok-threshold.ensures (and_so _ c.in_ok-expect.ensures (nothing_read (at_least_wrote q c.as_slice-found.ensures.value c.put_all-first.ensures c.put.ensures))))
+    and_then _ c.in_ok-summands.ensures.took (λ ks q. and_so _ c.in_ok-threshold.ensures (and_so _ c.in_ok-expect.ensures (nothing_read (at_least_wrote q c.as_slice-found.ensures.value c.put-first.ensures c.put.ensures))))
 
 pub sum-returns-in_err-start_sum-clause-took : goal.sum-returns-in_err-start_sum-clause-took
 sum-returns-in_err-start_sum-clause-took t c =
