@@ -25,16 +25,12 @@ pub fn scan(words: &mut Words) -> Result<Option<Lexeme>, WordFault>
     ensures same { words.new.text ≡ words.old.text }
     ensures first { First words.old.text.now (items words.old.text.now words.old.pos) words.old.pos result words.new.pos }
 {
-    match words.next_word() {
-        None => Ok(None),
-        Some(word) => match token_of(word.bytes) {
-            Some(token) => Ok(Some(Lexeme {
-                token,
-                place: word.place,
-            })),
-            None => Err(WordFault { place: word.place }),
-        },
-    }
+    let Some(word) = words.next_word() else {
+        return Ok(None);
+    };
+    let place = word.place;
+    let token = token_of(word.bytes).ok_or(WordFault { place })?;
+    Ok(Some(Lexeme { token, place }))
 }
 
 // The next token, where the text must not end.
