@@ -1,22 +1,13 @@
 -- The truths line by line.
 use Rattle.std.proofs.Common.{◌≡◌, ℕ, zero, suc, ◌+◌, ◌*◌, ◌<◌, ◌≤◌, Bool, true, cond, not, ◌&&◌, ◌||◌, leb, List, [], ◌∷◌, ◌++◌, length, get_or, take, drop, fold, sym, refl, ap, ◌∙◌, ap₂, le_of_suc-le-suc, not-suc-le-zero, arith}
 use Rattle.std.proofs.lemmas.List.{length_push, get_or_append_left, get_or_push, take-append-drop, length-take-le}
-use Rattle.std.proofs.lemmas.List.Sums.{fold_more, fold_push, sum_by-cons}
+use Rattle.std.proofs.lemmas.List.Sums.{sum_by-cons}
 use Rattle.std.specs.List.{AllByRecursion}
 use Rattle.systems.specs.Meaning.{Meaning, Move, point}
 use Rattle.formulas.specs.declared.node.Term.{Term}
 use Rattle.formulas.specs.Lines.{state, is_state, is_dist, Line, constant, both, non, step, sum}
 use Rattle.formulas.specs.Truths.{Truth, truth, truths, never, next_truth, weigh, total, any, holds_of, holds_at, at_node, of_node}
 use Rattle.formulas.specs.Right.{Below, Formed}
-
--- one line more
-pub truths_push : (S : Meaning) (ls : List Line) (l : Line) → truths S (ls ++ (l ∷ [])) ≡ next_truth S (truths S ls) l
-unfolding truths
-truths_push S ls l = fold_push (next_truth S) [] ls l
-
-pub truths_more : (S : Meaning) (ls : List Line) (i : ℕ) (d : Line) → i < length ls → truths S (take (i + 1) ls) ≡ next_truth S (truths S (take i ls)) (get_or ls i d)
-unfolding truths
-truths_more S ls i d h = fold_more (next_truth S) [] ls i d h
 
 -- what looks only at states of P
 pub weigh-same : (P : ℕ → Type 0) (f g : ℕ → Bool) → ((s : ℕ) → P s → f s ≡ g s) → (mv : Move) → AllByRecursion (λ t. P t.state) mv → weigh f mv ≡ weigh g mv
@@ -79,10 +70,6 @@ module _ (S : Meaning) where
   line-from T (l ∷ ls) (suc i) d h =
       ap (λ n. get_or (fold (next_truth S) (next_truth S T l) ls) n never) (omega (arith, length_push T (truth S T l)))
       ∙ line-from (next_truth S T l) ls i d (le_of_suc-le-suc h)
-
-  pub length-truths : (ls : List Line) → length (truths S ls) ≡ length ls
-  unfolding truths
-  length-truths ls = omega (arith, length_from [] ls)
 
   -- later lines leave the truths of the earlier ones
   pub truths-kept : (ls : List Line) (i j : ℕ) → j < i → i ≤ length ls → get_or (truths S ls) j never ≡ get_or (truths S (take i ls)) j never

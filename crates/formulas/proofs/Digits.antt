@@ -1,8 +1,7 @@
-use Rattle.std.proofs.Common.{◌≡◌, ℕ, ◌+◌, ◌-◌, ◌*◌, ◌<◌, ◌≤◌, min, false, eqb, ◌⊎◌, List, [], ◌∷◌, length, get_or, drop, Some, None, sym, refl, ap, ◌∙◌, add-one, arith, drop-cons}
+use Rattle.std.proofs.Common.{◌≡◌, ℕ, ◌+◌, ◌-◌, ◌*◌, ◌<◌, ◌≤◌, min, List, [], ◌∷◌, length, get_or, drop, sym, ap, ◌∙◌, add-one, arith, drop-cons}
 use Rattle.std.proofs.lemmas.List.{drop_all}
-use Rattle.std.proofs.lemmas.Bool.{cond-true, cond-false, cond_both, eqb-true}
 use Rattle.std.proofs.lemmas.Bool.Decides.{nat_tests}
-use Rattle.formulas.specs.Tokens.{digits, decimal, canonical, numeral_of}
+use Rattle.formulas.specs.Tokens.{digits, decimal, canonical}
 
 -- an over-large number stays over-large
 capped : (a b d : ℕ) → min a 1073741825 ≡ min b 1073741825 → min (a * 10 + d) 1073741825 ≡ min (b * 10 + d) 1073741825
@@ -15,22 +14,11 @@ decimal-capped (d ∷ bs) a b e = decimal-capped bs (a * 10 + (d - 48)) (b * 10 
 min-min : (a : ℕ) → min (min a 1073741825) 1073741825 ≡ min a 1073741825
 min-min a = grind arith
 
-min-small : (v : ℕ) → v ≤ 1073741825 → min v 1073741825 ≡ v
-min-small v h = grind arith
-
-canonical-plain : (w : List ℕ) → 0 < length w → (get_or w 0 0 ≡ 48 → length w ≤ 1) → canonical w ≡ digits w
-canonical-plain [] h f = absurd (omega arith)
-canonical-plain (b ∷ []) h f = refl
-canonical-plain (b ∷ c ∷ bs) h f = cond_both (eqb b 48) false (digits (b ∷ c ∷ bs)) (λ x. x ≡ digits (b ∷ c ∷ bs)) (λ e. absurd (omega (arith, f (eqb-true b 48 e)))) (λ _. refl)
-
 -- the digits before i are read, as v
 pub record Sofar (w : List ℕ) (i v : ℕ) : Type 0 where
   pub small : v ≤ 1073741825
   pub value : min (decimal v (drop i w)) 1073741825 ≡ min (decimal 0 w) 1073741825
   pub rest : digits (drop i w) ≡ canonical w
-
-pub begin : (w : List ℕ) → 0 < length w → (get_or w 0 0 ≡ 48 → length w ≤ 1) → Sofar w 0 0
-begin w h f = record { small = omega arith; value = refl; rest = sym (canonical-plain w h f) }
 
 module _ (w : List ℕ) (i v : ℕ) (h : Sofar w i v) (lt : i < length w) where
   next : drop i w ≡ get_or w i 0 ∷ drop (i + 1) w
@@ -45,15 +33,6 @@ module _ (w : List ℕ) (i v : ℕ) (h : Sofar w i v) (lt : i < length w) where
     where
       here : (d : ℕ) (l : List ℕ) → 48 ≤ d → d ≤ 57 → digits (d ∷ l) ≡ digits l
       here d l a b = grind (arith, nat_tests)
-
-  pub wrong : (get_or w i 0 < 48) ⊎ (57 < get_or w i 0) → numeral_of w ≡ None
-  wrong no_digit = cond-false (canonical w) _ _ (sym h.rest ∙ ap digits next ∙ here (get_or w i 0) (drop (i + 1) w) no_digit)
-    where
-      here : (d : ℕ) (l : List ℕ) → (d < 48) ⊎ (57 < d) → digits (d ∷ l) ≡ false
-      here d l a = grind (arith, nat_tests)
-
-pub finished : (w : List ℕ) (i v : ℕ) → Sofar w i v → length w ≤ i → Some v ≡ numeral_of w
-finished w i v h le = let none = drop_all i w le in let yes = sym h.rest ∙ ap digits none in sym (cond-true (canonical w) _ _ yes ∙ ap Some (sym h.value ∙ ap (λ l. min (decimal v l) 1073741825) none ∙ min-small v h.small))
 
 -- the elements of w from i on are those of l
 abbrev pub Spells : List ℕ → ℕ → List ℕ → Type 0

@@ -1,24 +1,10 @@
 -- Tables that fill from the front.
-use Rattle.std.proofs.Common.{◌≡◌, ℕ, ◌+◌, ◌<◌, ◌≤◌, List, [], ◌∷◌, ◌++◌, length, get_or, drop, set, sym, refl, ap, ◌∙◌, append_assoc, add-one, arith, length-append, drop-cons}
-use Rattle.std.proofs.lemmas.List.{drop_all}
+use Rattle.std.proofs.Common.{◌≡◌, ℕ, ◌+◌, ◌<◌, ◌≤◌, List, [], ◌∷◌, ◌++◌, length, drop, set, sym, refl, ap, ◌∙◌, append_assoc, arith, length-append}
 use Rattle.formulas.specs.Append.{raised, written}
-
-pub raised_more : (i m n : ℕ) → raised (raised i m) n ≡ raised i (m + n)
-raised_more i m n = grind arith
 
 pub written-++ : {X : Type 0} (ys zs : List X) (xs : List X) (i : ℕ) → i ≤ 4294967295 → written (written xs i ys) (raised i (length ys)) zs ≡ written xs i (ys ++ zs)
 written-++ [] zs xs i h = ap (λ n. written xs n zs) (grind arith)
 written-++ (y ∷ ys) zs xs i h = ap (λ n. written (written (set xs i y) (raised i 1) ys) n zs) (grind arith) ∙ written-++ ys zs (set xs i y) (raised i 1) (grind arith)
-
--- one entry more
-module _ {X : Type 0} (ys : List X) (i : ℕ) (lt : i < length ys) where
-  pub written_next : (before after : List X) (fill next : ℕ) (y : X) → y ≡ get_or ys i y → after ≡ set before fill y → next ≡ raised fill 1 → written after next (drop (i + 1) ys) ≡ written before fill (drop i ys)
-  written_next before after fill next y e s n =
-      let front : drop i ys ≡ y ∷ drop (i + 1) ys = drop-cons ys i y lt ∙ rw (← e, add-one) in
-      rw (s, n, front)
-
-pub written_all : {X : Type 0} (ys before : List X) (i fill : ℕ) → length ys ≤ i → written before fill (drop i ys) ≡ before
-written_all ys before i fill h = ap (written before fill) (drop_all i ys h)
 
 -- entries written from the front of a table that takes them
 set_behind : {X : Type 0} (zs : List X) (x y : X) (xs : List X) → set (zs ++ (x ∷ xs)) (length zs) y ≡ zs ++ (y ∷ xs)

@@ -1,11 +1,11 @@
 -- What each kind of term adds to the tables.
-use Rattle.std.proofs.Common.{◌≡◌, ℕ, ◌+◌, ◌<◌, ◌≤◌, min, Bool, List, [], ◌∷◌, ◌++◌, length, take, sym, refl, ap, ◌∙◌, subst, append_assoc, append-nil, add-zero, arith, length-append}
+use Rattle.std.proofs.Common.{◌≡◌, ℕ, ◌+◌, ◌<◌, ◌≤◌, min, Bool, List, [], ◌∷◌, ◌++◌, length, sym, refl, ap, ◌∙◌, subst, append_assoc, append-nil, add-zero, arith, length-append}
+use Rattle.arrayvec.specs.ArrayVec.{ArrayVec}
 use Rattle.formulas.specs.declared.node.Node.{Node}
 use Rattle.formulas.specs.declared.node.Node.TheVariants.{State, Dist}
 use Rattle.formulas.specs.declared.node.StateNode.TheVariants.{Step}
 use Rattle.formulas.specs.declared.node.DistNode.TheVariants.{Sum}
 use Rattle.formulas.specs.declared.node.Term.{Term}
-use Rattle.formulas.specs.declared.summands.Summands.{Summands}
 use Rattle.formulas.specs.Append.{capped, raised, Table, Puts}
 use Rattle.formulas.specs.Layout.{run, constant_node, both_node, non_node, node_table, term_table, alternative_table}
 use Rattle.formulas.specs.Lines.{Sort, state, dist, Line, both, non, step, sum}
@@ -233,20 +233,20 @@ joined-joined none c t ks = refl
 joined-joined (product d u ds) c t ks = ap (product d u) (joined-joined ds c t ks)
 
 -- no products yet
-pub none_summed : {s : Store} {xs : Summands} → xs.count ≡ 0 → Summed s s none xs
+pub none_summed : {s : Store} {xs : ArrayVec Term} → xs.items ≡ [] → Summed s s none xs
 none_summed {s} {xs} z =
     record {
       counted = record { nodes = grind arith; terms = grind arith; alternatives = grind arith };
-      many = ap (λ n. length (take n xs.terms)) z;
-      few = omega arith;
-      found = λ h. ap (λ n. take n xs.terms) z;
+      many = ap length z;
+      few = let n : length xs.items ≡ 0 = ap length z in omega arith;
+      found = λ h. z;
       laid = λ h. together (unchanged s.nodes h.nodes) (unchanged s.terms h.terms) (unchanged s.alternatives h.alternatives);
     }
 
 -- one product more
-pub one_summed : {s m after : Store} {ds : Products} {xs ys : Summands} {left : ℕ} {k : ℕ × Tree} {x : Term} → Summed s m ds xs → Factored left m after k x → xs.count < 8 → ys.count ≡ xs.count + 1 → take ys.count ys.terms ≡ take xs.count xs.terms ++ (x ∷ []) →
+pub one_summed : {s m after : Store} {ds : Products} {xs ys : ArrayVec Term} {left : ℕ} {k : ℕ × Tree} {x : Term} → Summed s m ds xs → Factored left m after k x → length xs.items < 8 → ys.items ≡ xs.items ++ (x ∷ []) →
     Summed s after (joined ds (product k.0 k.1 none)) ys
-one_summed {s} {m} {after} {ds} {xs} {ys} {left} {k} {x} q w lt e f =
+one_summed {s} {m} {after} {ds} {xs} {ys} {left} {k} {x} q w lt f =
     let one = product k.0 k.1 none in
     let i = s.nodes.fill in
     let next : Small m → m.nodes.fill ≡ i + below_products ds = λ h. exact i (below_products ds) m.nodes.fill q.counted.nodes h.nodes in
@@ -255,7 +255,7 @@ one_summed {s} {m} {after} {ds} {xs} {ys} {left} {k} {x} q w lt e f =
           counted_as (omega (arith, below-joined ds one)) (omega (arith, terms-joined ds one)) (omega (arith, steps_joined ds one))
           (counted-then q.counted w.wrote.counted);
       many = ap length f ∙ simp length-append (omega (arith, q.many, count-joined ds one));
-      few = omega arith;
+      few = let n : length ys.items ≡ length xs.items + 1 = ap length f ∙ simp length-append refl in omega arith;
       found = λ h.
           let b = small-before w.wrote.counted h in
           let number : x.node ≡ i + below_products ds + below k.1 = omega (arith, w.wrote.number h, next b) in
@@ -273,14 +273,13 @@ one_summed {s} {m} {after} {ds} {xs} {ys} {left} {k} {x} q w lt e f =
     same-term : {x : Term} {c n : ℕ} → x.coefficient ≡ c → x.node ≡ n → x ≡ record { coefficient = c; node = n }
     same-term a b = λ j. record { coefficient = a j; node = b j }
 
--- a sum and its terms
-pub at_least_wrote : {s m : Store} {ks : Products} {xs : Summands} {t n first : ℕ} {ns : Table Node} {ts : Table Term} → Summed s m ks xs →
-    Puts m.terms (take xs.count xs.terms) first ts → Puts m.nodes (Dist (Sum t (run first (length (take xs.count xs.terms)))) ∷ []) n ns →
+-- a sum and its terms, l
+pub at_least_wrote : {s m : Store} {ks : Products} {xs : ArrayVec Term} {l : List Term} {t n first : ℕ} {ns : Table Node} {ts : Table Term} → Summed s m ks xs → l ≡ xs.items →
+    Puts m.terms l first ts → Puts m.nodes (Dist (Sum t (run first (length l))) ∷ []) n ns →
     Wrote dist s (record { nodes = ns; terms = ts; alternatives = m.alternatives }) (at_least ks t) n
-at_least_wrote {s} {m} {ks} {xs} {t} {n} {first} {ns} {ts} q puts p =
-    let l = take xs.count xs.terms in
+at_least_wrote {s} {m} {ks} {xs} {l} {t} {n} {first} {ns} {ts} q e puts p =
     let c : Counted m 1 (count ks) 0 (record { nodes = ns; terms = ts; alternatives = m.alternatives }) =
-    record { nodes = put-counted p; terms = put-counted puts ∙ ap (raised m.terms.fill) q.many; alternatives = grind arith } in
+    record { nodes = put-counted p; terms = put-counted puts ∙ ap (raised m.terms.fill) (ap length e ∙ q.many); alternatives = grind arith } in
     record {
       counted = counted_as (omega arith) (omega arith) (omega arith) (counted-then q.counted c);
       number = λ h. let b = small-before c h in omega (arith, p.place, exact s.nodes.fill (below_products ks) m.nodes.fill q.counted.nodes b.nodes);
@@ -288,5 +287,5 @@ at_least_wrote {s} {m} {ks} {xs} {t} {n} {first} {ns} {ts} q puts p =
           let b = small-before c h in
           more_added s m _ _ (sum t l ∷ []) b (q.laid b)
           (together (put p ∙ ap (λ k. extended m.nodes (Dist (Sum t (run k (length l))) ∷ [])) puts.place) (put puts ∙ ap (extended m.terms) (sym (append-nil l))) (unchanged m.alternatives b.alternatives))
-          ∙ ap (λ y. added s (lay_products s.nodes.fill ks ++ (sum t y ∷ []))) (q.found b);
+          ∙ ap (λ y. added s (lay_products s.nodes.fill ks ++ (sum t y ∷ []))) (e ∙ q.found b);
     }

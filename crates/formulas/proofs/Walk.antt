@@ -1,10 +1,10 @@
 -- One turn of the walk over the nodes.
-use Rattle.std.proofs.Common.{◌≡◌, ℕ, ◌+◌, ◌<◌, ◌≤◌, true, false, ◌&&◌, eqb, List, length, get_or, drop, sym, ◌∙◌, ap₂, arith}
-use Rattle.std.proofs.lemmas.List.{at_drop_more, at_drop_all}
+use Rattle.std.proofs.Common.{◌≡◌, ℕ, ◌+◌, ◌<◌, ◌≤◌, true, List, length, get_or, drop, sym, ◌∙◌, ap₂, arith}
+use Rattle.std.proofs.lemmas.List.{at_drop_more}
 use Rattle.formulas.specs.declared.node.Node.{Node}
 use Rattle.formulas.specs.declared.node.Term.{Term}
 use Rattle.formulas.specs.Stands.{walk, node_ok, terms_of, alternatives_of}
-use Rattle.formulas.proofs.Steps.{and_on, and_off}
+use Rattle.formulas.proofs.Steps.{and_on}
 use Rattle.formulas.proofs.Fits.{terms-within, alternatives-within}
 
 -- the nodes below i stand, with t terms and a alternatives

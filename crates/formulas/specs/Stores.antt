@@ -1,12 +1,12 @@
 -- What the term readers do to the three tables that they fill.
-use Rattle.std.specs.Prelude.{◌≡◌, ℕ, ◌+◌, ◌<◌, ◌≤◌, List, [], ◌∷◌, length, take, Result}
+use Rattle.std.specs.Prelude.{◌≡◌, ℕ, ◌+◌, ◌<◌, ◌≤◌, List, length, Result}
+use Rattle.arrayvec.specs.ArrayVec.{ArrayVec}
 use Rattle.formulas.specs.declared.append.AppendList.{AppendList}
 use Rattle.formulas.specs.declared.fault.GrammarFault.{GrammarFault}
 use Rattle.formulas.specs.declared.grammar.Reader.{Reader}
 use Rattle.formulas.specs.declared.node.Node.{Node}
 use Rattle.formulas.specs.declared.node.Fills.{Fills}
 use Rattle.formulas.specs.declared.node.Term.{Term}
-use Rattle.formulas.specs.declared.summands.Summands.{Summands}
 use Rattle.formulas.specs.Append.{capped, raised, written, Table, upto, table}
 use Rattle.formulas.specs.Grammar.{Item, Out}
 use Rattle.formulas.specs.Layout.{node_table, term_table, alternative_table}
@@ -104,9 +104,9 @@ pub record Factored (left : ℕ) (s after : Store) (k : ℕ × Tree) (x : Term) 
   pub wrote : Wrote state s after k.1 x.node
 
 -- the products are written, but for their terms, which xs has
-pub record Summed (s after : Store) (ks : Products) (xs : Summands) : Type 0 where
+pub record Summed (s after : Store) (ks : Products) (xs : ArrayVec Term) : Type 0 where
   pub counted : Counted s (below_products ks) (term_counts ks) (step_counts ks) after
-  pub many : length (take xs.count xs.terms) ≡ count ks
-  pub few : xs.count ≤ 8
-  pub found : Small after → take xs.count xs.terms ≡ terms s.nodes.fill ks
+  pub many : length xs.items ≡ count ks
+  pub few : length xs.items ≤ 8
+  pub found : Small after → xs.items ≡ terms s.nodes.fill ks
   pub laid : Small after → after ≡ added s (lay_products s.nodes.fill ks)

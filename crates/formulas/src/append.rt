@@ -25,10 +25,10 @@ impl<'a, T: Drop> AppendList<'a, T> {
     {
         let at = self.fill;
         self.fill = at.saturating_add(1);
-        if at as usize >= self.slots.len() {
-            return at;
+        // Not by get_mut: the borrow checker forgets a slice in a field that a call's result borrows.
+        if (at as usize) < self.slots.len() {
+            self.slots[at as usize] = x;
         }
-        self.slots[at as usize] = x;
         at
     }
 }

@@ -8,7 +8,7 @@ use crate::tables::Standing;
 // How many entries a table may use.
 pub(crate) const MOST_ENTRIES: u32 = 1048576;
 
-// It is moved and never copied: opening it uses it up.
+// It is moved and never copied: opening it uses it up. Its fields are apart, since clauses of callers name them.
 #[derive(Drop)]
 pub struct Draft {
     fills: Fills,

@@ -1,6 +1,6 @@
 // Terms, as they are written to the three tables: each node when its term closes, and its terms or alternatives with it.
 // `room` more parentheses may open.
-ghost use Rattle.std.specs.Prelude.{◌≡◌, [], ◌∷◌};
+ghost use Rattle.std.specs.Prelude.{◌≡◌};
 ghost use Rattle.formulas.specs.Lines.{Sort.state, Sort.dist};
 ghost use Rattle.formulas.specs.Productions.{sort_of, a_term, inside, pair, negation, diamond as a_diamond, standing, a_sum, threshold as a_threshold, a_quantity, sum_inside, a_product, one_product, products as products_from, an_element};
 ghost use Rattle.formulas.specs.Append.{upto, Puts};
@@ -11,26 +11,19 @@ use crate::fault::GrammarFault;
 use crate::lexer::{Start, another, expect, number, start_prob, start_sum, start_term};
 use crate::node::{DistNode, Fills, Node, Run, StateNode, Term};
 use crate::sort::Sort;
-use crate::summands::Summands;
 use crate::token::{Lexeme, Token};
 use crate::words::Words;
+use arrayvec::ArrayVec;
+
+// The terms of a sum, of which there are eight at most.
+type Summands = ArrayVec<Term, 8>;
 
 const MOST_ACTION: u64 = 31;
 // The largest threshold, and the largest sum of coefficients.
 const THOUSAND: u64 = 1000;
 
-// Puts an entry behind the filled part of a table, and answers its place.
-fn put<T: Drop>(slots: &mut [T], fill: &mut u32, x: T) -> u32
-    ensures { Puts (upto slots.old fill.old) (x ∷ []) result (upto slots.new fill.new) }
-{
-    let mut list = AppendList { slots, fill: *fill };
-    let at = list.put(x);
-    *fill = list.fill;
-    at
-}
-
-// The same for several entries.
-fn put_all<T: Copy>(slots: &mut [T], fill: &mut u32, entries: &[T]) -> u32
+// Puts entries behind the filled part of a table, and answers the place of the first.
+fn put<T: Copy>(slots: &mut [T], fill: &mut u32, entries: &[T]) -> u32
     ensures { Puts (upto slots.old fill.old) entries.now result (upto slots.new fill.new) }
 {
     let mut list = AppendList { slots, fill: *fill };
@@ -51,7 +44,7 @@ pub(crate) struct Reader<'t, 'a> {
 }
 
 impl Reader<'_, '_> {
-    // A state term: answers the number of its node.
+    // A state term: answers the number of its node. The readers of the two sorts call each other, so each sort has its own.
     #[cycle(readers)]
     pub(crate) fn state_term(&mut self, room: u32) -> Result<u32, GrammarFault>
         ensures lent { SameTables self.old self.new }
@@ -61,7 +54,7 @@ impl Reader<'_, '_> {
             Start::Constant(yes) => Ok(put(
                 self.nodes,
                 &mut self.fills.nodes,
-                Sort::State.constant(yes),
+                &[Sort::State.constant(yes)],
             )),
             Start::Inside(head) => self.state_inside(room - 1, head),
         }
@@ -90,7 +83,7 @@ impl Reader<'_, '_> {
         let action = number(&mut self.words, 0, MOST_ACTION)?;
         let d = self.dist_term(room)?;
         expect(&mut self.words, Token::Close)?;
-        let first = put(self.alternatives, &mut self.fills.alternatives, d);
+        let first = put(self.alternatives, &mut self.fills.alternatives, &[d]);
         let step = StateNode::Step {
             action: action as u32,
             moves: Run { first, count: 1 },
@@ -99,7 +92,7 @@ impl Reader<'_, '_> {
                 count: 0,
             },
         };
-        Ok(put(self.nodes, &mut self.fills.nodes, Node::State(step)))
+        Ok(put(self.nodes, &mut self.fills.nodes, &[Node::State(step)]))
     }
 
     #[cycle(readers)]
@@ -113,13 +106,13 @@ impl Reader<'_, '_> {
             first: self.fills.alternatives,
             count: 0,
         };
-        let first = put(self.alternatives, &mut self.fills.alternatives, d);
+        let first = put(self.alternatives, &mut self.fills.alternatives, &[d]);
         let step = StateNode::Step {
             action: 0,
             moves,
             heres: Run { first, count: 1 },
         };
-        Ok(put(self.nodes, &mut self.fills.nodes, Node::State(step)))
+        Ok(put(self.nodes, &mut self.fills.nodes, &[Node::State(step)]))
     }
 
     // A distribution term: answers the number of its node.
@@ -132,7 +125,7 @@ impl Reader<'_, '_> {
             Start::Constant(yes) => Ok(put(
                 self.nodes,
                 &mut self.fills.nodes,
-                Sort::Dist.constant(yes),
+                &[Sort::Dist.constant(yes)],
             )),
             Start::Inside(head) => self.dist_inside(room - 1, head),
         }
@@ -172,7 +165,7 @@ impl Reader<'_, '_> {
         let a = self.term(sort, room)?;
         let b = self.term(sort, room)?;
         expect(&mut self.words, Token::Close)?;
-        Ok(put(self.nodes, &mut self.fills.nodes, sort.both(a, b)))
+        Ok(put(self.nodes, &mut self.fills.nodes, &[sort.both(a, b)]))
     }
 
     #[cycle(readers)]
@@ -182,7 +175,7 @@ impl Reader<'_, '_> {
     {
         let a = self.term(sort, room)?;
         expect(&mut self.words, Token::Close)?;
-        Ok(put(self.nodes, &mut self.fills.nodes, sort.non(a)))
+        Ok(put(self.nodes, &mut self.fills.nodes, &[sort.non(a)]))
     }
 
     #[cycle(readers)]
@@ -193,8 +186,8 @@ impl Reader<'_, '_> {
         let summands = self.sum(room)?;
         let threshold = number(&mut self.words, 0, THOUSAND)?;
         expect(&mut self.words, Token::Close)?;
-        let found = &summands.terms[..summands.count];
-        let first = put_all(self.terms, &mut self.fills.terms, found);
+        let found = summands.as_slice();
+        let first = put(self.terms, &mut self.fills.terms, found);
         let sum = DistNode::Sum {
             threshold,
             terms: Run {
@@ -202,7 +195,7 @@ impl Reader<'_, '_> {
                 count: found.len() as u32,
             },
         };
-        Ok(put(self.nodes, &mut self.fills.nodes, Node::Dist(sum)))
+        Ok(put(self.nodes, &mut self.fills.nodes, &[Node::Dist(sum)]))
     }
 
     // The sum of a threshold: its terms are kept until the threshold closes.
@@ -212,7 +205,7 @@ impl Reader<'_, '_> {
         ensures took { Parses 1 (a_sum room) Summed self.old result self.new }
     {
         match start_sum(&mut self.words, room)? {
-            None => Ok(Summands::none()),
+            None => Ok(Summands::new()),
             Some(head) => self.sum_inside(room - 1, head),
         }
     }
@@ -235,7 +228,7 @@ impl Reader<'_, '_> {
         ensures took { Parses 1 (one_product room) Summed self.old result self.new }
     {
         let term = self.product(room, THOUSAND)?;
-        let mut found = Summands::none();
+        let mut found = Summands::new();
         found.push(term);
         Ok(found)
     }
@@ -245,9 +238,9 @@ impl Reader<'_, '_> {
         ensures lent { SameTables self.old self.new }
         ensures took { Parses 0 (products_from room 0 1000) Summed self.old result self.new }
     {
-        let mut found = Summands::none();
+        let mut found = Summands::new();
         let mut left = THOUSAND;
-        while let Some(x) = another(&mut self.words, found.count)? {
+        while let Some(x) = another(&mut self.words, found.len())? {
             let term = self.element(room, x, left)?;
             left -= term.coefficient;
             found.push(term);

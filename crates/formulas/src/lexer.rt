@@ -1,6 +1,6 @@
 // The tokens of a text, one after another.
-ghost use Rattle.std.specs.Prelude.{◌≡◌};
-ghost use Rattle.formulas.specs.Grammar.{items, next, expect as expected, number as numbered, code as code_of};
+ghost use Rattle.std.specs.Prelude.{◌≡◌, ◌==◌};
+ghost use Rattle.formulas.specs.Grammar.{items, next, expect as expected, number as numbered, code};
 ghost use Rattle.formulas.specs.Readers.{Takes, Itself, First, in_range as ranged_of, behind as behind_of, starts, sum_starts, another as another_of, prob_starts};
 
 use crate::fault::{GrammarFault, WordFault};
@@ -25,16 +25,12 @@ pub fn scan(words: &mut Words) -> Result<Option<Lexeme>, WordFault>
     ensures same { words.new.text ≡ words.old.text }
     ensures first { First words.old.text.now (items words.old.text.now words.old.pos) words.old.pos result words.new.pos }
 {
-    match words.next_word() {
-        None => Ok(None),
-        Some(word) => match token_of(word.bytes) {
-            Some(token) => Ok(Some(Lexeme {
-                token,
-                place: word.place,
-            })),
-            None => Err(WordFault { place: word.place }),
-        },
-    }
+    let Some(word) = words.next_word() else {
+        return Ok(None);
+    };
+    let place = word.place;
+    let token = token_of(word.bytes).ok_or(WordFault { place })?;
+    Ok(Some(Lexeme { token, place }))
 }
 
 // The next token, where the text must not end.
@@ -42,31 +38,14 @@ pub fn lexeme(words: &mut Words) -> Result<Lexeme, GrammarFault>
     ensures { Takes 1 next Itself words.old result words.new }
 {
     let end = words.text.len();
-    match scan(words)? {
-        Some(x) => Ok(x),
-        None => Err(GrammarFault::Misplaced(end)),
-    }
+    scan(words)?.ok_or(GrammarFault::Misplaced(end))
 }
 
-// Which token it is, the value of a numeral aside.
-fn code(token: Token) -> u32
-    ensures { result ≡ code_of token }
+// Whether they are the same token, the value of a numeral aside.
+fn alike(a: Token, b: Token) -> bool
+    ensures { result ≡ (code a == code b) }
 {
-    match token {
-        Token::Open => 0,
-        Token::Close => 1,
-        Token::True => 2,
-        Token::False => 3,
-        Token::And => 4,
-        Token::Not => 5,
-        Token::Dia => 6,
-        Token::Here => 7,
-        Token::Prob => 8,
-        Token::AtLeast => 9,
-        Token::Plus => 10,
-        Token::Times => 11,
-        Token::Numeral(_) => 12,
-    }
+    a == b || matches!((a, b), (Token::Numeral(_), Token::Numeral(_)))
 }
 
 // One certain token.
@@ -74,7 +53,7 @@ pub fn expect(words: &mut Words, token: Token) -> Result<(), GrammarFault>
     ensures { Takes 1 (expected token) Itself words.old result words.new }
 {
     let x = lexeme(words)?;
-    if code(token) == code(x.token) {
+    if alike(token, x.token) {
         Ok(())
     } else {
         Err(GrammarFault::Misplaced(x.place))
@@ -131,12 +110,7 @@ pub fn start_sum(words: &mut Words, room: u32) -> Result<Option<Lexeme>, Grammar
 {
     let x = lexeme(words)?;
     match x.token {
-        Token::Numeral(n) => {
-            if n != 0 {
-                return Err(GrammarFault::Misplaced(x.place));
-            }
-            Ok(None)
-        }
+        Token::Numeral(0) => Ok(None),
         Token::Open => Ok(Some(behind(words, x, room)?)),
         _ => Err(GrammarFault::Misplaced(x.place)),
     }
@@ -148,18 +122,9 @@ pub fn another(words: &mut Words, count: usize) -> Result<Option<Lexeme>, Gramma
 {
     let x = lexeme(words)?;
     match x.token {
-        Token::Close => {
-            if count < FEWEST {
-                return Err(GrammarFault::Misplaced(x.place));
-            }
-            Ok(None)
-        }
-        Token::Open => {
-            if count >= MOST {
-                return Err(GrammarFault::TooMany(x.place));
-            }
-            Ok(Some(x))
-        }
+        Token::Close if count >= FEWEST => Ok(None),
+        Token::Open if count >= MOST => Err(GrammarFault::TooMany(x.place)),
+        Token::Open => Ok(Some(x)),
         _ => Err(GrammarFault::Misplaced(x.place)),
     }
 }

@@ -11,7 +11,6 @@ pub mod read;
 pub mod refusal;
 mod sort;
 pub mod stands;
-mod summands;
 pub mod tables;
 pub mod token;
 pub mod tokens;

@@ -21,7 +21,7 @@ impl Run {
 }
 
 // A term of a sum: how much the states that satisfy a node count.
-#[derive(Clone, Copy)]
+#[derive(Clone, Copy, Default)]
 pub struct Term {
     pub coefficient: u64,
     pub node: u32,
@@ -49,7 +49,7 @@ pub enum DistNode {
     Sum { threshold: u64, terms: Run },
 }
 
-// A node is of the state sort or of the distribution sort.
+// A node is of the state sort or of the distribution sort. Each sort has an enum of its own, so that no node has a kind of the other.
 #[derive(Clone, Copy)]
 pub enum Node {
     State(StateNode),

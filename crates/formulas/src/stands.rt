@@ -69,6 +69,7 @@ impl Place<'_> {
     fn all_terms(&self, parts: &[Term]) -> bool
         ensures { result ≡ terms_ok self.now.tables.nodes.now self.now.i (1000 * self.now.mass) parts.now }
     {
+        // A loop and no chain: what is left falls from term to term.
         let mut left = self.limit();
         for t in parts {
             if !self.term(left, *t) {
@@ -111,8 +112,7 @@ impl Place<'_> {
         ensures { result ≡ state_ok self.now.tables.nodes.now self.now.tables.alternatives.now self.now.i self.now.alternatives node }
     {
         match node {
-            StateNode::Yes => true,
-            StateNode::No => true,
+            StateNode::Yes | StateNode::No => true,
             StateNode::And(j, k) => self.below_state(j) && self.below_state(k),
             StateNode::Not(j) => self.below_state(j),
             StateNode::Step {
@@ -127,8 +127,7 @@ impl Place<'_> {
         ensures { result ≡ dist_ok self.now.tables.nodes.now self.now.tables.terms.now self.now.mass self.now.i self.now.terms node }
     {
         match node {
-            DistNode::Yes => true,
-            DistNode::No => true,
+            DistNode::Yes | DistNode::No => true,
             DistNode::And(j, k) => self.below_dist(j) && self.below_dist(k),
             DistNode::Not(j) => self.below_dist(j),
             DistNode::Sum { threshold, terms } => {
@@ -151,12 +150,7 @@ fn term_count(node: Node) -> usize
     ensures { result ≡ terms_of node }
 {
     match node {
-        Node::Dist(
-            DistNode::Sum {
-                threshold: _,
-                terms,
-            },
-        ) => terms.count as usize,
+        Node::Dist(DistNode::Sum { terms, .. }) => terms.count as usize,
         _ => 0,
     }
 }
@@ -165,13 +159,8 @@ fn alternative_count(node: Node) -> usize
     ensures { result ≡ alternatives_of node }
 {
     match node {
-        Node::State(
-            StateNode::Step {
-                action: _,
-                moves,
-                heres,
-            },
-        ) => moves.count as usize + heres.count as usize,
+        Node::State(StateNode::Step { moves, heres, .. }) => moves.count as usize
+            + heres.count as usize,
         _ => 0,
     }
 }

@@ -45,10 +45,7 @@ pub struct Standing {
 fn first<'a, T>(table: &'a [T], n: u32) -> &'a [T]
     ensures { result.now ≡ take n table.now }
 {
-    if table.len() <= n as usize {
-        return table;
-    }
-    &table[0..n as usize]
+    &table[..table.len().min(n as usize)]
 }
 
 // What a formula of these fills uses of its tables: the front of each.

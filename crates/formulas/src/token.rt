@@ -1,6 +1,6 @@
 // The words of the language.
 
-#[derive(Clone, Copy)]
+#[derive(Clone, Copy, PartialEq, Debug)]
 pub enum Token {
     Open,
     Close,

@@ -16,16 +16,15 @@ pub fn numeral(word: &[u8]) -> Option<u32>
     }
     let mut value = 0u64;
     for b in word {
-        let d = *b;
-        if d < b'0' || d > b'9' {
+        if !b.is_ascii_digit() {
             return None;
         }
-        value = (value * 10 + u64::from(d - b'0')).min(CAP);
+        value = (value * 10 + u64::from(*b - b'0')).min(CAP);
     }
     Some(value as u32)
 }
 
-// Which word of the language it is.
+// Which word of the language it is. The reserved words stand in one match.
 pub fn token(word: &[u8]) -> Option<Token>
     ensures { result ≡ token_of word.now }
 {
@@ -42,9 +41,6 @@ pub fn token(word: &[u8]) -> Option<Token>
         b">=" => Some(Token::AtLeast),
         b"+" => Some(Token::Plus),
         b"*" => Some(Token::Times),
-        _ => match numeral(word) {
-            Some(n) => Some(Token::Numeral(n)),
-            None => None,
-        },
+        _ => numeral(word).map(Token::Numeral),
     }
 }

@@ -1,13 +1,10 @@
-use Rattle.std.proofs.Common.{sym, ap, ◌∙◌, arith, ltb-false, ltb-true}
+use Rattle.std.proofs.Common.{◌≡◌, sym, ap, ◌∙◌, rules, arith, ltb-false, ltb-true}
 use Rattle.formulas.specs.Tokens.{reserved, numeral_token}
 use Rattle.formulas.proofs.Reserved.{Apart, not-reserved, other_0, other_1, other_2, other_3, other_4, other_5, other_6}
 use Rattle.formulas.proofs.tokens.token.Goals as goal
-use Rattle.formulas.proofs.tokens.token.Lts.{After-numeral}
-use Rattle.formulas.proofs.tokens.token.Tie.{the-claims}
-use Rattle.formulas.proofs.tokens.token.Reads.{Pre, Post}
 
 -- no reserved word came to the last arm
-other : (c : After-numeral the-claims Pre Post) → Apart c.args.word.now reserved
+other : (c : goal.After-map) → Apart c.args.word.now reserved
 other c = elim c.in_default.branch [
   | goal.in_default-via-then-word-lt1 w ↦ other_0 _ (omega (arith, ltb-true, ltb-false))
   | goal.in_default-via-else-word-lt1+then-word-lt2+in_default-1 w ↦ other_1 _ (omega (arith, ltb-true, ltb-false)) (λ a. omega arith) (λ a. omega arith) (λ a. omega arith) (λ a. omega arith)
@@ -38,8 +35,7 @@ other c = elim c.in_default.branch [
   | goal.in_default-via-else-word-lt1+else-word-lt2+else-word-lt3+else-word-lt4+else-word-lt5+else-word-lt6 w ↦ other_6 _ (omega (arith, ltb-true, ltb-false))
 ]
 
-pub returns-in-Some : goal.returns-in-Some
-returns-in-Some c = sym (not-reserved _ (other c.before.before) ∙ ap numeral_token (sym c.in-Some.ensures))
-
-pub returns-in-None : goal.returns-in-None
-returns-in-None c = sym (not-reserved _ (other c.before.before) ∙ ap numeral_token (sym c.in-None.ensures))
+pub returns-in_default : goal.returns-in_default
+returns-in_default c =
+    let e : c.map.result ≡ numeral_token c.numeral.result = search rules in
+    e ∙ ap numeral_token c.numeral.ensures ∙ sym (not-reserved _ (other c))
