@@ -106,12 +106,7 @@ fn some_lit(row: &[u8], wanted: &[u32]) -> bool
     requires { AllByRecursion (λ d. d < length row.now) wanted.now }
     ensures { result ≡ any (lit_row row.now) wanted.now }
 {
-    for d in wanted {
-        if row[*d as usize] == 1 {
-            return true;
-        }
-    }
-    false
+    wanted.iter().any(|d| row[*d as usize] == 1)
 }
 
 impl<S: System> Site<'_, '_, S> {
