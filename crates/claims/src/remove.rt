@@ -38,7 +38,10 @@ fn answer<S: System>(
         second.terms,
         second.alternatives,
     ) {
-        Ok(left) => Ok((Claim::new(left, mass * system.mass(), shared), left.fills)),
+        Ok(left) => {
+            let removed = mass * system.mass();
+            Ok((Claim::new(left, removed, shared), left.fills))
+        }
         Err(why) => Err((claim, why)),
     }
 }

@@ -4,8 +4,8 @@ use Rattle.formulas.specs.Tables.{slots, contents, held}
 use Rattle.claims.proofs.Removing.{light, few, as_claimed, removes}
 use Rattle.claims.proofs.remove.answer.Goals as goal
 
-pub overflow_mul-mass : goal.overflow_mul-mass
-overflow_mul-mass g c =
+pub overflow_mul-removed : goal.overflow_mul-removed
+overflow_mul-removed g c =
     let R = g.S.System.meaning c.args.system.now in
     let s = contents c.args.tables in
     let second = held c.args.second.now in
