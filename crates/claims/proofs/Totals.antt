@@ -1,5 +1,5 @@
 -- The sum of a move, target by target.
-use Rattle.std.proofs.Common.{◌≡◌, ℕ, zero, suc, ◌+◌, ◌*◌, ◌<◌, ◌≤◌, Bool, true, false, cond, List, [], ◌∷◌, ◌++◌, length, get_or, take, Some, None, sum_by, Option, sym, refl, ap, ◌∙◌, mul_comm, add-mul, mul-le-mul_left, mul-zero, mul-add, arith}
+use Rattle.std.proofs.Common.{◌≡◌, ℕ, zero, suc, ◌+◌, ◌*◌, ◌<◌, ◌≤◌, Bool, true, false, cond, List, [], ◌∷◌, ◌++◌, length, get_or, take, Some, sum_by, sym, refl, ap, ◌∙◌, mul_comm, add-mul, mul-le-mul_left, mul-zero, mul-add, arith}
 use Rattle.std.proofs.lemmas.List.{take_all, take_more}
 use Rattle.std.proofs.lemmas.List.Sums.{sum_by-cons, sum_by_push, get_or-le-sum_by}
 use Rattle.std.proofs.lemmas.Nat.{mul-le}
@@ -92,6 +92,3 @@ share_fits M P ks mv l small i h =
 module _ (mv : Move) (i : ℕ) (h : i < length mv) where
   pub target_is : (t : Target) → Some t ≡ slice_get mv i → t ≡ get_or mv i no_target
   target_is t e = let f = slice_get-get_or mv i no_target h in cc
-
-  pub target-there : ◌≡◌ {A = Option Target} None (slice_get mv i) → ⊥
-  target-there e = let f = slice_get-get_or mv i no_target h in let z : ◌≡◌ {A = ℕ} 0 1 = cc in omega arith

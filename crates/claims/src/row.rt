@@ -135,6 +135,7 @@ impl<S: System> Site<'_, '_, S> {
         ensures { let b = self.entry.board in let M = S.meaning b.system.now in Filling (truths_in M b.tables) (spot_of M self.entry.spot) span.low span.high row.old row.new }
     {
         let tables = self.board.tables;
+        // By place, since the whole row is read while one place of it is written.
         for j in span.low..span.high {
             if row[j] == MARK {
                 let holds = self.holds(tables.nodes[j], row);
