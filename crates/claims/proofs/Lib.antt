@@ -11,6 +11,5 @@ pub mod Removing
 pub mod RunsLaw
 pub mod Examples
 pub mod Reached
-pub mod Lookups
 pub mod Pastes
 pub mod Judging

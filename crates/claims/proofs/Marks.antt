@@ -55,15 +55,6 @@ module _ (wanted : List ℕ) (i : ℕ) (h : i < length wanted) where
 
 -- node i is passed on the way down
 module _ (ns : List Node) (parted : Parted ns) (start low high i j : ℕ) (old row : List ℕ) (s : Spread ns j start low high old row) (e : j ≡ i + 1) (h : i < high) (hn : high ≤ length ns) where
-  pub spread_off : (get_or row i 0 ≡ 2 → ⊥) → Spread ns i start low high old row
-  spread_off no-mark = record {
-    lower = s.lower;
-    stays = s.stays;
-    closed = λ k l u m. ⊎_elim (λ e. absurd (no-mark (subst (Mark row) e m))) (λ ne. s.closed k (omega arith) u m) (cases_eq k i);
-    below = s.below;
-    above = s.above;
-  }
-
   pub spread_on : (low' : ℕ) (row' : List ℕ) → high ≤ length row → low' ≡ lowest low (parts (get_or ns i no_node)) → row' ≡ marked row (parts (get_or ns i no_node)) → Spread ns i start low' high old row'
   spread_on low' row' hl el er =
       let ps = parts (get_or ns i no_node) in

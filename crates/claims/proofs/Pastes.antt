@@ -40,7 +40,7 @@ over-behind front new old p n ep en =
     let back = ap₂ (λ i j. drop i (drop j (front ++ rest))) en ep ∙ ap (drop (length new)) (drop_at front rest (length front) refl) ∙ drop-drop (length new) (length front) old ∙ ap (λ k. drop k old) (sym (length-append front new)) in
     ap₂ (λ a r. a ++ (new ++ r)) (take_at front rest p (sym ep)) back ∙ sym (append_assoc front new (drop (length (front ++ new)) old))
 
-counting_more : (n : ℕ) → range_with_len 0 (n + 1) ≡ range_with_len 0 n ++ (n ∷ [])
+pub counting_more : (n : ℕ) → range_with_len 0 (n + 1) ≡ range_with_len 0 n ++ (n ∷ [])
 counting_more n =
     sym (map-id (range_with_len 0 (n + 1))) ∙ map-range_with_len_more (λ x. x) 0 n n (omega arith) ∙ ap (λ l. l ++ (n ∷ [])) (map-id (range_with_len 0 n))
 

@@ -1,6 +1,6 @@
 -- From what dividing answers to what remove answers.
-use Rattle.std.proofs.Common.{◌≡◌, ℕ, ◌*◌, ◌≤◌, Bool, true, false, cond, not, ◌&&◌, ◌||◌, ltb, leb, length, is_ok, Ok, Err, Result, sym, refl, ap, ◌∙◌, subst, ap₂, true≢false}
-use Rattle.std.proofs.lemmas.Bool.{and_parts, leb-true, ltb-false}
+use Rattle.std.proofs.Common.{◌≡◌, ℕ, ◌*◌, ◌≤◌, Bool, true, false, cond, not, ◌||◌, ltb, is_ok, Ok, Err, Result, sym, refl, ap, ◌∙◌, ap₂, true≢false}
+use Rattle.std.proofs.lemmas.Bool.{ltb-false}
 use Rattle.systems.specs.declared.actions.ActionSet.{ActionSet}
 use Rattle.systems.specs.Meaning.{Meaning}
 use Rattle.formulas.specs.declared.node.Fills.{Fills}
@@ -8,7 +8,7 @@ use Rattle.formulas.specs.declared.refusal.Refusal.{Refusal}
 use Rattle.formulas.specs.declared.refusal.Refusal.TheVariants.{NoFormula, Large, Heavy, Short}
 use Rattle.formulas.specs.declared.tables.Standing.{Standing}
 use Rattle.formulas.specs.Layout.{fills as fills_of}
-use Rattle.formulas.specs.Tables.{Slots, takes, fits, laid, stands_in, standing}
+use Rattle.formulas.specs.Tables.{Slots, fits, laid, stands_in, standing}
 use Rattle.quotient.specs.Divisions.{remainder, divided}
 use Rattle.claims.specs.declared.claim.Claim.{Claim}
 use Rattle.claims.specs.Removals.{rest, removal, Removed}
@@ -21,9 +21,6 @@ failed false why other e = refl
 had_room : (b : Bool) (x y : Standing) → cond b (Ok y) (Err Short) ≡ Ok x → b ≡ true
 had_room true x y e = refl
 had_room false x y e = absurd (true≢false (sym (ap is_ok e)))
-
-taken : (need size : ℕ) → takes size need ≡ true → need ≤ 1048576
-taken need size e = leb-true need 1048576 (and_parts (leb need size) (leb need 1048576) e).1
 
 -- a quotient that was made: the tests that came before
 module _ (R : Meaning) (c : Claim) (s second : Slots) (x : Standing) (e : removal R c s second ≡ Ok x) where
@@ -46,15 +43,6 @@ module _ (R : Meaning) (c : Claim) (s second : Slots) (x : Standing) (e : remova
   pub is : x ≡ standing (rest R c s)
   unfolding standing_of
   is = ap standing_of (sym e ∙ made)
-
-  pub few : (x.fills.nodes ≤ 1048576) × (x.fills.terms ≤ 1048576) × (x.fills.alternatives ≤ 1048576)
-  few =
-      let f = fills_of (rest R c s).lines in
-      let same : x.fills ≡ f = ap (λ y. y.fills) is in
-      let p = and_parts (takes (length second.nodes) f.nodes) (takes (length second.terms) f.terms && takes (length second.alternatives) f.alternatives) roomy in
-      let q = and_parts (takes (length second.terms) f.terms) (takes (length second.alternatives) f.alternatives) p.1 in
-      subst (λ (g : Fills). (g.nodes ≤ 1048576) × (g.terms ≤ 1048576) × (g.alternatives ≤ 1048576)) (sym same)
-      (taken f.nodes (length second.nodes) p.0, taken f.terms (length second.terms) q.0, taken f.alternatives (length second.alternatives) q.1)
 
 -- what the parts of the claim were asked for
 module _ (R : Meaning) (c : Claim) (s second : Slots) (f : Fills) (root m : ℕ) (A : ActionSet) (ef : f ≡ c.fills) (er : root ≡ c.root) (em : m ≡ c.mass) (eA : A ≡ c.shared) where

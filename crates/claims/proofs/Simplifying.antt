@@ -1,5 +1,5 @@
 -- From what simplification in place answers to what simplify answers.
-use Rattle.std.proofs.Common.{◌≡◌, ℕ, ◌≤◌, Bool, true, false, cond, not, ltb, length, is_ok, is_err, Ok, Err, Result, sym, refl, ap, ◌∙◌, ap₂, true≢false, arith}
+use Rattle.std.proofs.Common.{◌≡◌, ℕ, ◌≤◌, Bool, true, false, cond, not, ltb, length, is_ok, Ok, Err, Result, refl, ap, ◌∙◌, ap₂, true≢false, arith}
 use Rattle.formulas.specs.declared.node.Fills.{Fills}
 use Rattle.formulas.specs.declared.refusal.Refusal.{Refusal}
 use Rattle.formulas.specs.declared.refusal.Refusal.TheVariants.{NoFormula, Short}
@@ -8,9 +8,9 @@ use Rattle.formulas.specs.Tables.{stands_in, standing}
 use Rattle.simplification.specs.Laws.{Fewer}
 use Rattle.simplification.specs.Tables.{Desk, Done, done, taken_up, simplified}
 use Rattle.claims.specs.declared.claim.Claim.{Claim}
-use Rattle.claims.specs.Simplifications.{simpler, outcome, Simplified, Unchanged}
+use Rattle.claims.specs.Simplifications.{simpler, outcome, Simplified}
 
--- an Ok comes from where both tests pass, and an Err leaves what was there
+-- an Ok comes from where both tests pass
 module _ (y : Standing) (d z : Desk) where
   abbrev tests : Bool → Bool → Done
   tests a b = cond (not a) (done (Err NoFormula) d) (cond b (done (Err Short) d) (done (Ok y) z))
@@ -19,11 +19,6 @@ module _ (y : Standing) (d z : Desk) where
   chosen_ok true false x e h = refl
   chosen_ok true true x e h = absurd (true≢false (ap (λ o. is_ok o.answer) h))
   chosen_ok false b x e h = absurd (true≢false (ap (λ o. is_ok o.answer) h))
-
-  chosen_err : (a b : Bool) (x : Refusal) (e : Desk) → done (Err x) e ≡ tests a b → e ≡ d
-  chosen_err true false x e h = absurd (true≢false (ap (λ o. is_err o.answer) h))
-  chosen_err true true x e h = ap (λ o. o.left) h
-  chosen_err false b x e h = ap (λ o. o.left) h
 
 -- a formula that uses no more of its tables than one that uses few uses few
 pub few-left : (new old few : Fills) → Fewer new old → old ≡ few
@@ -58,8 +53,3 @@ module _ (c : Claim) (d after : Desk) (f : Fills) (root m : ℕ) (ef : f ≡ c.f
         shared = shared;
         tables = ap (λ o. o.left) same;
       }
-
-  pub refuses : (why : Refusal) (claim : Claim) → done (Err why) after ≡ simplified f root m d → claim ≡ c → Unchanged c d why claim after
-  refuses why claim e same =
-      let left = chosen_err (standing (simpler c d)) d (taken_up (simpler c d) c.fills d) (stands_in c.fills c.root c.mass d.tables) (ltb (length d.map) c.fills.nodes) why after (e ∙ as_claimed) in
-      record { refused = sym (ap (done (Err why)) (sym left) ∙ e ∙ as_claimed); claim = same; tables = left }

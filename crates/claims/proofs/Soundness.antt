@@ -1,4 +1,4 @@
--- What is used of a sound system: few states, some mass but not too much, and moves and points that stay within the states and weigh no more than the mass.
+-- What is used of a sound system: some state, some mass, and moves and points that stay within the states and weigh no more than the mass.
 use Rattle.std.proofs.Common.{◌<◌, ◌≤◌, [], length, get_or, sum_by, sym, subst, ⊎_elim, arith}
 use Rattle.std.specs.List.{AllByRecursion}
 use Rattle.std.proofs.lemmas.List.{get_or_past}
@@ -13,14 +13,8 @@ module _ (M : Meaning) (sound : Sound M) where
   pub some-state : 1 ≤ M.states
   some-state = sound.ruled.states_low
 
-  pub few_states : M.states ≤ 1073741824
-  few_states = sound.limited.states_high
-
   pub some-mass : 1 ≤ M.mass
   some-mass = sound.ruled.mass_low
-
-  pub little_mass : M.mass ≤ 1000000000000000
-  little_mass = sound.limited.mass_high
 
 pub record Light (M : Meaning) (mv : Move) : Type 0 where
   pub whole : sum_by (λ t. t.weight) mv ≤ M.mass

@@ -1,15 +1,16 @@
 -- The sum of a move, target by target.
-use Rattle.std.proofs.Common.{◌≡◌, ℕ, ◌+◌, ◌*◌, ◌<◌, ◌≤◌, Bool, true, false, cond, List, [], ◌∷◌, ◌++◌, length, get_or, take, Some, None, sum_by, Option, sym, refl, ap, ◌∙◌, mul_comm, add-mul, mul-le-mul_left, mul-zero, mul-add, arith}
+use Rattle.std.proofs.Common.{◌≡◌, ℕ, zero, suc, ◌+◌, ◌*◌, ◌<◌, ◌≤◌, Bool, true, false, cond, List, [], ◌∷◌, ◌++◌, length, get_or, take, Some, sum_by, sym, refl, ap, ◌∙◌, mul_comm, add-mul, mul-le-mul_left, mul-zero, mul-add, arith}
 use Rattle.std.proofs.lemmas.List.{take_all, take_more}
-use Rattle.std.proofs.lemmas.List.Sums.{sum_by-cons, sum_by_push, sum_by_more, sum_by-take-le, get_or-le-sum_by}
+use Rattle.std.proofs.lemmas.List.Sums.{sum_by-cons, sum_by_push, get_or-le-sum_by}
 use Rattle.std.proofs.lemmas.Nat.{mul-le}
 use Rattle.std.proofs.lemmas.Option.{slice_get-get_or}
-use Rattle.std.specs.List.{slice_get}
+use Rattle.std.specs.List.{range_with_len, slice_get}
 use Rattle.systems.specs.declared.system.Target.{Target}
 use Rattle.systems.specs.Meaning.{Meaning, Move}
 use Rattle.formulas.specs.declared.node.Term.{Term}
 use Rattle.formulas.specs.Truths.{weigh, total}
 use Rattle.claims.specs.Sums.{coefficients, coefficients_of, no_target}
+use Rattle.claims.proofs.Pastes.{counting_more}
 use Rattle.claims.proofs.Soundness.{Light}
 
 swapped : (b : Bool) (c w : ℕ) → c * cond b w 0 ≡ w * cond b c 0
@@ -30,16 +31,32 @@ total_push at (k ∷ ks) mv t =
     let spread = ap (λ n. t.weight * n) (sum_by-cons (λ u. cond (at u.node t.state) u.coefficient 0) k ks) ∙ mul-add t.weight (cond b c 0) rest in
     omega (arith, whole, before, here, spread, swapped b c t.weight, total_push at ks mv t)
 
-pub total_none : (at : ℕ → ℕ → Bool) (ks : List Term) → total at ks [] ≡ 0
+total_none : (at : ℕ → ℕ → Bool) (ks : List Term) → total at ks [] ≡ 0
 total_none at [] = refl
 total_none at (k ∷ ks) = omega (arith, sum_by-cons (λ u. u.coefficient * weigh (at u.node) []) k ks, mul-zero k.coefficient, total_none at ks)
 
-pub total_more : (at : ℕ → ℕ → Bool) (ks : List Term) (mv : Move) (i sum v : ℕ) → i < length mv → sum ≡ total at ks (take i mv) → v ≡ (get_or mv i no_target).weight * coefficients_of (λ j. at j (get_or mv i no_target).state) ks → sum + v ≡ total at ks (take (i + 1) mv)
-total_more at ks mv i sum v h e f =
-    omega (arith, e, f, ap (total at ks) (take_more mv i no_target h), total_push at ks (take i mv) (get_or mv i no_target))
+-- what the target at a place adds
+abbrev pub part : (ℕ → ℕ → Bool) → List Term → Move → ℕ → ℕ
+part at ks mv i = (get_or mv i no_target).weight * coefficients_of (λ j. at j (get_or mv i no_target).state) ks
 
-pub total-all : (at : ℕ → ℕ → Bool) (ks : List Term) (mv : Move) (i sum : ℕ) → length mv ≤ i → sum ≡ total at ks (take i mv) → sum ≡ total at ks mv
-total-all at ks mv i sum h e = e ∙ ap (total at ks) (take_all i mv h)
+total_parts : (at : ℕ → ℕ → Bool) (ks : List Term) (mv : Move) (n : ℕ) → n ≤ length mv → sum_by (part at ks mv) (range_with_len 0 n) ≡ total at ks (take n mv)
+total_parts at ks mv zero h = sym (total_none at ks)
+total_parts at ks mv (suc n) h =
+    let next : suc n ≡ n + 1 = omega arith in
+    omega (
+      arith,
+      ap (λ m. sum_by (part at ks mv) (range_with_len 0 m)) next,
+      ap (sum_by (part at ks mv)) (counting_more n),
+      sum_by_push (part at ks mv) (range_with_len 0 n) n,
+      total_parts at ks mv n (omega arith),
+      total_push at ks (take n mv) (get_or mv n no_target),
+      ap (total at ks) (take_more mv n no_target (omega arith)),
+      ap (λ m. total at ks (take m mv)) next,
+    )
+
+-- all the targets together
+pub total_whole : (at : ℕ → ℕ → Bool) (ks : List Term) (mv : Move) (n : ℕ) → n ≡ length mv → sum_by (part at ks mv) (range_with_len 0 n) ≡ total at ks mv
+total_whole at ks mv n e = total_parts at ks mv n (omega arith) ∙ ap (total at ks) (take_all n mv (omega arith))
 
 chosen : (b : Bool) (n : ℕ) → cond b n 0 ≤ n
 chosen true n = omega arith
@@ -50,7 +67,7 @@ weigh-le P [] = omega arith
 weigh-le P (t ∷ mv) =
     omega (arith, chosen (P t.state) t.weight, sum_by-cons (λ u. cond (P u.state) u.weight 0) t mv, sum_by-cons (λ u. u.weight) t mv, weigh-le P mv)
 
-coefficients-le : (P : ℕ → Bool) (ks : List Term) → coefficients_of P ks ≤ coefficients ks
+pub coefficients-le : (P : ℕ → Bool) (ks : List Term) → coefficients_of P ks ≤ coefficients ks
 coefficients-le P [] = omega arith
 coefficients-le P (k ∷ ks) =
     omega (arith, chosen (P k.node) k.coefficient, sum_by-cons (λ u. cond (P u.node) u.coefficient 0) k ks, sum_by-cons (λ u. u.coefficient) k ks, coefficients-le P ks)
@@ -63,20 +80,9 @@ total-le at (k ∷ ks) mv w l =
     let grown = ap (λ n. n * w) (sum_by-cons (λ u. u.coefficient) k ks) ∙ add-mul k.coefficient (coefficients ks) w in
     omega (arith, sum_by-cons (λ u. u.coefficient * weigh (at u.node) mv) k ks, total-le at ks mv w l, one, grown)
 
-abbrev pub no-term : Term
-no-term = record { coefficient = 0; node = 0 }
-
--- one term more, for one target
-pub coefficients_more : (P : ℕ → Bool) (ks : List Term) (i sum v : ℕ) → i < length ks → sum ≡ coefficients_of P (take i ks) → v ≡ cond (P (get_or ks i no-term).node) (get_or ks i no-term).coefficient 0 → sum + v ≡ coefficients_of P (take (i + 1) ks)
-coefficients_more P ks i sum v h e f = omega (arith, e, f, sum_by_more (λ k. cond (P k.node) k.coefficient 0) ks i no-term h)
-
 -- no sum wraps
-pub coefficients_fit : (P : ℕ → Bool) (ks : List Term) → coefficients ks ≤ 1000000000000000000 → (i : ℕ) → coefficients_of P (take i ks) ≤ 1000000000000000000
-coefficients_fit P ks small i = omega (arith, sum_by-take-le (λ k. cond (P k.node) k.coefficient 0) ks i, coefficients-le P ks)
-
-pub total-fits : (M : Meaning) (at : ℕ → ℕ → Bool) (ks : List Term) (mv : Move) → Light M mv → coefficients ks * M.mass ≤ 1000000000000000000 → (i : ℕ) → total at ks (take i mv) ≤ 1000000000000000000
-total-fits M at ks mv l small i =
-    omega (arith, total-le at ks (take i mv) M.mass (omega (arith, sum_by-take-le (λ t. t.weight) mv i, l.whole)))
+pub total-fits : (M : Meaning) (at : ℕ → ℕ → Bool) (ks : List Term) (mv : Move) → Light M mv → coefficients ks * M.mass ≤ 1000000000000000000 → total at ks mv ≤ 1000000000000000000
+total-fits M at ks mv l small = omega (arith, total-le at ks mv M.mass l.whole)
 
 pub share_fits : (M : Meaning) (P : ℕ → Bool) (ks : List Term) (mv : Move) → Light M mv → coefficients ks * M.mass ≤ 1000000000000000000 → (i : ℕ) → i < length mv → (get_or mv i no_target).weight * coefficients_of P ks ≤ 1000000000000000000
 share_fits M P ks mv l small i h =
@@ -86,6 +92,3 @@ share_fits M P ks mv l small i h =
 module _ (mv : Move) (i : ℕ) (h : i < length mv) where
   pub target_is : (t : Target) → Some t ≡ slice_get mv i → t ≡ get_or mv i no_target
   target_is t e = let f = slice_get-get_or mv i no_target h in cc
-
-  pub target-there : ◌≡◌ {A = Option Target} None (slice_get mv i) → ⊥
-  target-there e = let f = slice_get-get_or mv i no_target h in let z : ◌≡◌ {A = ℕ} 0 1 = cc in omega arith

@@ -1,7 +1,6 @@
 -- Zeros over a part of a row.
-use Rattle.std.proofs.Common.{◌≡◌, ℕ, ◌+◌, ◌-◌, ◌<◌, ◌≤◌, List, ◌++◌, length, get_or, take, drop, replicate, sym, ap, ◌∙◌, ap₂, arith}
+use Rattle.std.proofs.Common.{◌≡◌, ℕ, ◌+◌, ◌-◌, ◌<◌, ◌≤◌, List, ◌++◌, length, get_or, take, drop, replicate, ap, ◌∙◌, arith}
 use Rattle.std.proofs.lemmas.List.{length-append, length-take-le, length-drop, length-replicate, get_or_append_left, get_or-append_right, get_or-take, get_or-drop, get_or-replicate}
-use Rattle.formulas.specs.Tables.{over}
 
 -- xs with zeros from low up to before high
 module _ (low high : ℕ) (xs : List ℕ) (ordered : low ≤ high) (top : high ≤ length xs) where
@@ -42,7 +41,3 @@ module _ (low high : ℕ) (xs : List ℕ) (ordered : low ≤ high) (top : high �
       ∙ get_or-drop (high - low) (drop low xs) (k - low - (high - low)) 0
       ∙ get_or-drop low xs (high - low + (k - low - (high - low))) 0
       ∙ ap (λ i. get_or xs i 0) (omega arith)
-
--- zeros over the front
-pub zeroed_front : (n : ℕ) (mid old : List ℕ) → mid ≡ replicate n 0 → mid ++ drop n old ≡ over (replicate n 0) old
-zeroed_front n mid old zeros = ap₂ (λ m i. m ++ drop i old) zeros (sym (length-replicate {A = ℕ} n 0))

@@ -5,7 +5,6 @@ use Rattle.systems.specs.Meaning.{Meaning, Move}
 use Rattle.formulas.specs.declared.node.Node.{Node}
 use Rattle.formulas.specs.declared.node.Node.TheVariants.{State, Dist}
 use Rattle.formulas.specs.declared.node.StateNode as sn
-use Rattle.formulas.specs.declared.node.DistNode.{DistNode}
 use Rattle.formulas.specs.declared.node.DistNode as dn
 use Rattle.formulas.specs.declared.node.Term.{Term}
 use Rattle.formulas.specs.Truths.{Truth, of_node}

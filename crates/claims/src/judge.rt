@@ -35,6 +35,7 @@ impl<S: System> Board<'_, '_, S> {
         ensures value { let M = S.meaning self.entry.system.now in let t = self.entry.tables in result ≡ any (λ mv. any (λ d. of_node (truths_in M t) d mv) (entries t.alternatives.now run)) (M.moves state action) }
         ensures row { row.new ≡ row.old }
     {
+        // No `any`: tried, and nothing is known after it of the row that its closure lends to each call.
         for place in 0..self.system.moves(state, action) {
             let site = Site {
                 board: self,
@@ -112,6 +113,7 @@ fn fill_table<'a, S: System>(system: &'a S, tables: Tables<'a>, truth: &mut [u8]
     ensures row { row.new ≡ row.old }
 {
     let states = system.states() as usize;
+    // No loop over the nodes: a board counts them.
     for upto in 0..tables.nodes.len() {
         let (known, rest) = truth.split_at_mut(upto * states);
         let truths = Truths {

@@ -29,7 +29,10 @@ fn answer<S: System>(
     let shared = claim.shared();
     // Both arms are written out, since the claim goes back with an error.
     match divide(standing, mass, shared, tables, system, second) {
-        Ok(left) => Ok((Claim::new(left, mass * system.mass(), shared), left.fills)),
+        Ok(left) => {
+            let removed = mass * system.mass();
+            Ok((Claim::new(left, removed, shared), left.fills))
+        }
         Err(why) => Err((claim, why)),
     }
 }

@@ -105,12 +105,7 @@ fn some_lit(row: &[u8], wanted: &[u32]) -> bool
     requires { AllByRecursion (λ d. d < length row.now) wanted.now }
     ensures { result ≡ any (lit_row row.now) wanted.now }
 {
-    for d in wanted {
-        if row[*d as usize] == 1 {
-            return true;
-        }
-    }
-    false
+    wanted.iter().any(|d| row[*d as usize] == 1)
 }
 
 impl<S: System> Site<'_, '_, S> {
@@ -139,6 +134,7 @@ impl<S: System> Site<'_, '_, S> {
         ensures { let b = self.entry.board in let M = S.meaning b.system.now in Filling (truths_in M b.tables) (spot_of M self.entry.spot) span.low span.high row.old row.new }
     {
         let tables = self.board.tables;
+        // By place, since the whole row is read while one place of it is written.
         for j in span.low..span.high {
             if row[j] == MARK {
                 let holds = self.holds(tables.nodes[j], row);

@@ -16,10 +16,10 @@ impl<S: System> Site<'_, '_, S> {
         requires inside { index < length (spot_of (S.meaning self.board.system.now) self.spot) }
         ensures { let b = self.entry.board in let M = S.meaning b.system.now in let t = slice_index_or (spot_of M self.entry.spot) index no_target in result ≡ t.weight * coefficients_of (λ i. lit b.truths.bytes.now M.states i t.state) terms.now }
     {
-        match self.spot.target(self.board.system, index) {
-            Some(t) => t.weight * self.board.truths.coefficients_at(terms, t.state),
-            None => 0,
-        }
+        self.spot.target(self.board.system, index).map_or(
+            0,
+            |t| t.weight * self.board.truths.coefficients_at(terms, t.state),
+        )
     }
 
     // The sum of coefficient × weight over the terms: each target is asked for once.
@@ -27,11 +27,9 @@ impl<S: System> Site<'_, '_, S> {
         requires { let b = self.board in ReadyTerms (S.meaning b.system.now) (length b.truths.bytes.now) terms.now }
         ensures { let b = self.entry.board in let M = S.meaning b.system.now in result ≡ total (lit b.truths.bytes.now M.states) terms.now (spot_of M self.entry.spot) }
     {
-        let mut sum = 0;
-        for index in 0..self.spot.targets(self.board.system) {
-            sum += self.share(terms, index);
-        }
-        sum
+        (0..self.spot.targets(self.board.system))
+            .map(|index| self.share(terms, index))
+            .sum()
     }
 
     pub(crate) fn sum_holds(self, threshold: u64, run: Run) -> bool

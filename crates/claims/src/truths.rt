@@ -42,10 +42,6 @@ impl Truths<'_> {
         requires light { coefficients terms.now ≤ 1000000000000000000 }
         ensures { result ≡ coefficients_of (λ i. lit self.now.bytes.now self.now.states i state) terms.now }
     {
-        let mut sum = 0;
-        for t in terms {
-            sum += self.coefficient_at(*t, state);
-        }
-        sum
+        terms.iter().map(|t| self.coefficient_at(*t, state)).sum()
     }
 }

@@ -1,31 +1,19 @@
 use Rattle.std.proofs.Common.{◌*◌, sym, refl, ◌∙◌, ap₂, arith}
 use native.Mathlib.Nat.{one-le-mul}
 use Rattle.formulas.specs.Tables.{contents, held}
-use Rattle.claims.proofs.Removing.{light, few, as_claimed, removes}
+use Rattle.claims.proofs.Removing.{light, as_claimed, removes}
 use Rattle.claims.proofs.remove.answer.Goals as goal
 
-pub overflow_mul-mass : goal.overflow_mul-mass
-overflow_mul-mass g c =
+pub new-requires-clause-weighed : goal.new-requires-clause-weighed
+new-requires-clause-weighed g c =
     let R = g.S.System.meaning c.args.system.now in
     let s = contents c.args.tables in
     let second = held c.args.second.now in
     let done = sym (as_claimed R c.args.claim s second _ _ _ _ c.standing-standing.ensures.fills c.standing-standing.ensures.root c.mass-mass.ensures c.shared-shared.ensures) ∙ sym c.in-Ok.ensures.value in
-    omega (arith, ap₂ ◌*◌ c.mass-mass.ensures c.mass.ensures, light R c.args.claim s second c.in-Ok.left done)
-
-pub new-requires : goal.new-requires
-new-requires g c =
-    let R = g.S.System.meaning c.args.system.now in
-    let s = contents c.args.tables in
-    let second = held c.args.second.now in
-    let done = sym (as_claimed R c.args.claim s second _ _ _ _ c.standing-standing.ensures.fills c.standing-standing.ensures.root c.mass-mass.ensures c.shared-shared.ensures) ∙ sym c.in-Ok.ensures.value in
-    let product = ap₂ ◌*◌ c.mass-mass.ensures c.mass.ensures in
-    record {
-      few = few R c.args.claim s second c.in-Ok.left done;
-      weighed = (
-        omega (arith, product, one-le-mul c.args.claim.weighed.0 (g.met.S.System.sound c.args.system.now).ruled.mass_low),
-        omega (arith, product, light R c.args.claim s second c.in-Ok.left done),
-      );
-    }
+    let product = ap₂ ◌*◌ c.mass-mass.ensures c.mass.ensures in (
+      omega (arith, product, one-le-mul c.args.claim.weighed.0 (g.met.S.System.sound c.args.system.now).ruled.mass_low),
+      omega (arith, product, light R c.args.claim s second c.in-Ok.left done),
+    )
 
 pub returns-in-Ok-clause-outcome : goal.returns-in-Ok-clause-outcome
 returns-in-Ok-clause-outcome g c =

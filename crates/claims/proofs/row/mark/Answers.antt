@@ -1,15 +1,9 @@
-use Rattle.std.proofs.Common.{◌<◌, ◌≤◌, ap, ◌∙◌, subst, arith}
+use Rattle.std.proofs.Common.{◌<◌, ◌≤◌, subst, arith}
 use Rattle.std.specs.List.{AllByRecursion}
 use Rattle.std.proofs.lemmas.List.{take_all}
 use Rattle.std.proofs.ByRecursion.{All-get_or, All-weaker}
-use Rattle.claims.specs.Rows.{marked}
 use Rattle.claims.proofs.Marks.{mark-more, around_more}
 use Rattle.claims.proofs.row.mark.Goals as goal
-
-pub bounds-row-place : goal.bounds-row-place
-bounds-row-place c =
-    let near = All-get_or (λ d. d < c.args.upto) c.args.wanted.now c.loop-d.d-index 0 c.loop-d-test.true c.requires.before in
-    omega (arith, c.requires.long, c.loop-d.auto.row)
 
 pub loop-d-preserved : goal.loop-d-preserved
 loop-d-preserved c =
@@ -21,12 +15,7 @@ loop-d-preserved c =
       omega (arith, near, c.max-high.ensures, c.loop-d.invariant.2),
     )
 
-pub returns : goal.returns
-returns c =
+pub returns-clause-around : goal.returns-clause-around
+returns-clause-around c =
     let all = take_all c.loop-d.d-index c.args.wanted.now c.loop-d-test.false in
-    record {
-      row = c.loop-d.invariant.0 ∙ ap (marked c.args.row.now) all;
-      around = All-weaker (λ d. (c.loop-d.low ≤ d) × (d < c.loop-d.high)) (λ d. (c.min.result ≤ d) × (d < c.loop-d.high)) (λ d a. (omega (arith, a.0, c.min.ensures), a.1)) c.args.wanted.now (subst (AllByRecursion (λ d. (c.loop-d.low ≤ d) × (d < c.loop-d.high))) all c.loop-d.invariant.1);
-      ordered = omega (arith, c.min.ensures);
-      top = c.loop-d.invariant.2;
-    }
+    All-weaker (λ d. (c.loop-d.low ≤ d) × (d < c.loop-d.high)) (λ d. (c.min.result ≤ d) × (d < c.loop-d.high)) (λ d a. (omega (arith, a.0, c.min.ensures), a.1)) c.args.wanted.now (subst (AllByRecursion (λ d. (c.loop-d.low ≤ d) × (d < c.loop-d.high))) all c.loop-d.invariant.1)

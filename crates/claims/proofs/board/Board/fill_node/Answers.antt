@@ -1,17 +1,10 @@
-use Rattle.std.proofs.Common.{◌≡◌, ◌<◌, sym, refl, ap, ◌∙◌, subst, arith}
+use Rattle.std.proofs.Common.{◌≡◌, ◌<◌, ap, ◌∙◌, arith}
 use Rattle.formulas.specs.Truths.{at_node}
 use Rattle.claims.specs.Verdicts.{byte}
-use Rattle.claims.specs.Rows.{Blank}
 use Rattle.claims.specs.Boards.{truths_in}
 use Rattle.claims.proofs.Truthful.{bool_byte, state-is}
 use Rattle.claims.proofs.Pastes.{node_more, node_whole}
 use Rattle.claims.proofs.board.Board.fill_node.Goals as goal
-
-pub loop-state-init : goal.loop-state-init
-loop-state-init g c = record { bytes = refl; row = refl }
-
-pub holds-requires-clause-blank : goal.holds-requires-clause-blank
-holds-requires-clause-blank g c = subst (Blank c.args.self.upto) (sym c.loop-state.invariant.row) c.requires.blank
 
 pub loop-state-preserved : goal.loop-state-preserved
 loop-state-preserved g c =
@@ -27,12 +20,9 @@ loop-state-preserved g c =
       row = c.holds.ensures.row ∙ c.loop-state.invariant.row;
     }
 
-pub returns : goal.returns
-returns g c =
+pub returns-clause-bytes : goal.returns-clause-bytes
+returns-clause-bytes g c =
     let b = c.args.self in
     let M = g.S.System.meaning b.system.now in
     let end : c.loop-state.state ≡ M.states = omega (arith, c.requires.room, c.loop-state.auto.state-end, c.loop-state-test.false) in
-    record {
-      bytes = node_whole (truths_in M b.tables) M.states b.upto c.loop-state.state c.args.bytes.now c.loop-state.bytes c.requires.room end c.loop-state.invariant.bytes;
-      row = c.loop-state.invariant.row;
-    }
+    node_whole (truths_in M b.tables) M.states b.upto c.loop-state.state c.args.bytes.now c.loop-state.bytes c.requires.room end c.loop-state.invariant.bytes

@@ -1,4 +1,4 @@
-use Rattle.std.proofs.Common.{ℕ, ◌+◌, ◌*◌, ◌<◌, ◌≤◌, List, length, get_or, sym, refl, subst, mul-le-mul_right, arith}
+use Rattle.std.proofs.Common.{ℕ, ◌+◌, ◌*◌, ◌<◌, ◌≤◌, List, length, get_or, sym, subst, mul-le-mul_right, arith}
 use Rattle.claims.specs.Spots.{spot_of}
 use Rattle.claims.specs.Rows.{no_node, Filling}
 use Rattle.claims.specs.Boards.{truths_in, Agrees}
@@ -7,9 +7,6 @@ use Rattle.claims.proofs.Truthful.{ready}
 use Rattle.claims.proofs.Reached.{fill_on, fill_off}
 use Rattle.claims.proofs.board.Site.fill.Goals.{then-row-j-eq-MARK, else-row-j-eq-MARK}
 use Rattle.claims.proofs.board.Site.fill.Goals as goal
-
-pub loop-j-init : goal.loop-j-init
-loop-j-init g c = record { told = λ k l m. absurd (c.requires.bare k l m); below = λ k l. refl; above = λ k l. refl }
 
 pub holds-holds-requires : goal.holds-holds-requires
 holds-holds-requires g c =
@@ -21,9 +18,6 @@ holds-holds-requires g c =
     let rows : c.args.span.high * M.states ≤ length b.truths.bytes.now = omega (arith, b.known.rows, mul-le-mul_right M.states c.requires.top) in
     let long : c.args.span.high ≤ length c.loop-j.row = omega (arith, c.requires.long, c.loop-j.auto.row) in
     ready M c.args.span.high (length b.truths.bytes.now) (length c.loop-j.row) rows long t.terms.now t.alternatives.now j (get_or t.nodes.now j no_node) (omega (arith, c.loop-j-test.true)) (b.known.sits.right j no_node here)
-
-pub offset_bounds-tables-j : goal.offset_bounds-tables-j
-offset_bounds-tables-j g c = omega (arith, c.args.self.board.known.sits.few, c.args.self.board.known.nodes, c.requires.top, c.loop-j-test.true)
 
 pub loop-j-preserved : goal.loop-j-preserved
 loop-j-preserved g c =

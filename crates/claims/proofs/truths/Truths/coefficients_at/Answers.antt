@@ -1,25 +1,22 @@
-use Rattle.std.proofs.Common.{ℕ, ◌+◌, Bool, length, ap, ◌∙◌, arith}
-use Rattle.std.proofs.lemmas.List.{take_all}
+use Rattle.std.proofs.Common.{ℕ, ◌^◌, ◌<◌, Bool, cond, length, get_or, sum_by, rules, arith}
 use Rattle.std.proofs.ByRecursion.{All-get_or}
-use Rattle.claims.specs.Sums.{lit, RowAt, coefficients_of}
-use Rattle.claims.proofs.Totals.{no-term, coefficients_more, coefficients_fit}
+use Rattle.std.proofs.iter.Serving.{serving}
+use Rattle.std.proofs.iter.runs.Made.{chains}
+use Rattle.formulas.specs.declared.node.Term.{Term}
+use Rattle.claims.specs.Sums.{lit, RowAt}
+use Rattle.claims.proofs.Totals.{coefficients-le}
 use Rattle.claims.proofs.truths.Truths.coefficients_at.Goals as goal
 
-pub coefficient_at-sum-requires : goal.coefficient_at-sum-requires
-coefficient_at-sum-requires c = record {
-  room = All-get_or (λ k. RowAt c.args.self.now.states (length c.args.self.now.bytes.now) k.node) c.args.terms.now c.loop-t.t-index no-term c.loop-t-test.true c.requires.room;
-  inside = c.requires.inside;
-}
+pub sum-requires-clause-can : goal.sum-requires-clause-can
+sum-requires-clause-can c =
+    let t = c.args.self.now in
+    let inside = c.requires.inside in
+    let room : (k : ℕ) (d : Term) → k < length c.args.terms.now → RowAt t.states (length t.bytes.now) (get_or c.args.terms.now k d).node = λ k d h. All-get_or (λ (u : Term). RowAt t.states (length t.bytes.now) u.node) c.args.terms.now k d h c.requires.room in
+    grind (serving, room, inside)
 
-pub overflow_add-sum : goal.overflow_add-sum
-overflow_add-sum c =
-    let P : ℕ → Bool = λ i. lit c.args.self.now.bytes.now c.args.self.now.states i c.args.state in
-    omega (arith, coefficients_more P c.args.terms.now c.loop-t.t-index _ _ c.loop-t-test.true c.loop-t.invariant c.coefficient_at-sum.ensures, coefficients_fit P c.args.terms.now c.requires.light (c.loop-t.t-index + 1))
-
-pub loop-t-preserved : goal.loop-t-preserved
-loop-t-preserved c =
-    coefficients_more (λ i. lit c.args.self.now.bytes.now c.args.self.now.states i c.args.state) c.args.terms.now c.loop-t.t-index _ _ c.loop-t-test.true c.loop-t.invariant c.coefficient_at-sum.ensures
-
-pub returns : goal.returns
-returns c =
-    c.loop-t.invariant ∙ ap (coefficients_of (λ i. lit c.args.self.now.bytes.now c.args.self.now.states i c.args.state)) (take_all _ _ c.loop-t-test.false)
+pub sum-requires-clause-fits : goal.sum-requires-clause-fits
+sum-requires-clause-fits c =
+    let t = c.args.self.now in
+    let P : ℕ → Bool = λ i. lit t.bytes.now t.states i c.args.state in
+    let small : sum_by (λ (k : Term). cond (lit t.bytes.now t.states k.node c.args.state) k.coefficient 0) c.args.terms.now < 2 ^ 64 = omega (arith, coefficients-le P c.args.terms.now, c.requires.light) in
+    search (rules, chains, small)
