@@ -1,5 +1,6 @@
 // A job as it runs: the systems by name, and the claim with its tables.
-ghost use Rattle.std.specs.Prelude.{◌≡◌, is_ok, Ok, Err};
+ghost use Rattle.std.specs.Prelude.{◌≡◌, is_ok, IfOk, Some, None, Ok, Err};
+ghost use Rattle.std.specs.BTreeMap.{get_by_text};
 ghost use Rattle.formulas.specs.declared.refusal.Refusal.TheVariants.{NoFormula};
 ghost use Rattle.formulas.specs.Tables.{stands_in, contents};
 ghost use Rattle.claims.specs.Claims.{Opened};
@@ -47,7 +48,9 @@ pub struct Session {
 }
 
 impl Session {
-    pub fn new(heap: Global) -> Session {
+    pub fn new(heap: Global) -> Session
+        ensures { result.case ≡ None }
+    {
         Session {
             heap,
             shared: ActionSet::empty(),
@@ -125,7 +128,9 @@ impl Session {
     }
 
     // A name may be given once, and is no word of the judge line.
-    fn check_fresh<'a>(&self, name: &'a str) -> Result<(), LineFault<'a>> {
+    fn check_fresh<'a>(&self, name: &'a str) -> Result<(), LineFault<'a>>
+        ensures { IfOk result (λ _. get_by_text self.now.systems name.now ≡ None) }
+    {
         if matches!(name, "empty" | "over") || self.systems.contains_key(name) {
             return Err(LineFault::NameTaken(name));
         }
@@ -220,7 +225,9 @@ impl Session {
     }
 
     // The shared actions of the claim, or those of the next one.
-    fn shared_actions(&self) -> ActionSet {
+    fn shared_actions(&self) -> ActionSet
+        ensures { result ≡ elim self.now.case [ Some c ↦ c.claim.shared | None ↦ self.now.shared ] }
+    {
         match &self.case {
             Some(case) => case.claim.shared(),
             None => self.shared,
@@ -348,7 +355,9 @@ impl Started {
 }
 
 // Reads a promise into the tables and opens it.
-fn read_claim(text: &str, store: &mut Store, shared: ActionSet) -> Result<Claim, Refused> {
+fn read_claim(text: &str, store: &mut Store, shared: ActionSet) -> Result<Claim, Refused>
+    ensures { IfOk result (λ c. (c.mass ≡ 1) × (c.shared ≡ shared)) }
+{
     let draft = read(
         text.as_bytes(),
         store.nodes.as_mut_slice(),
