@@ -1,5 +1,5 @@
 // A job as it runs: the systems by name, and the claim with its tables.
-ghost use Rattle.std.specs.Prelude.{◌≡◌, is_ok, IfOk, Some, None, Ok, Err};
+ghost use Rattle.std.specs.Prelude.{◌≡◌, ◌≢◌, codes, is_ok, IfOk, IsSomeAnd, Some, None, Ok, Err};
 ghost use Rattle.std.specs.BTreeMap.{get_by_text};
 ghost use Rattle.formulas.specs.declared.refusal.Refusal.TheVariants.{NoFormula};
 ghost use Rattle.formulas.specs.Tables.{stands_in, contents};
@@ -114,13 +114,17 @@ impl Session {
     }
 
     // The system of a name.
-    fn find(&self, name: &str) -> anyhow::Result<Rc<AnySystem>> {
+    fn find(&self, name: &str) -> anyhow::Result<Rc<AnySystem>>
+        ensures { IfOk result (λ r. IsSomeAnd (get_by_text self.now.systems name.now) (λ s. r.value ≡ s.value)) }
+    {
         let system = self.systems.get(name).ok_or(LineFault::UnknownName(name))?;
         Ok(system.clone()?)
     }
 
     // Gives a system its name.
-    fn keep(&mut self, name: &str, system: AnySystem) -> anyhow::Result<()> {
+    fn keep(&mut self, name: &str, system: AnySystem) -> anyhow::Result<()>
+        ensures { IfOk result (λ _. IsSomeAnd (get_by_text self.new.systems name.now) (λ r. r.value ≡ system)) }
+    {
         let name = String::from_str(self.heap, name)?;
         let system = Rc::new(self.heap, system)?;
         self.systems.insert(name, system)?;
@@ -295,7 +299,10 @@ impl Session {
     }
 
     // The system of a name, or the empty system of a shared set.
-    fn system_of(&self, name: &str, shared: ActionSet) -> anyhow::Result<Rc<AnySystem>> {
+    fn system_of(&self, name: &str, shared: ActionSet) -> anyhow::Result<Rc<AnySystem>>
+        ensures empty { name.now ≡ codes "empty" → IfOk result (λ r. r.value ≡ AnySystem.Empty (record { shared = shared })) }
+        ensures named { name.now ≢ codes "empty" → IfOk result (λ r. IsSomeAnd (get_by_text self.now.systems name.now) (λ s. r.value ≡ s.value)) }
+    {
         if name == "empty" {
             return Ok(Rc::new(self.heap, AnySystem::Empty(Empty { shared }))?);
         }
