@@ -232,10 +232,9 @@ impl Session {
     fn shared_actions(&self) -> ActionSet
         ensures { result ≡ elim self.now.case [ Some c ↦ c.claim.shared | None ↦ self.now.shared ] }
     {
-        match &self.case {
-            Some(case) => case.claim.shared(),
-            None => self.shared,
-        }
+        self.case
+            .as_ref()
+            .map_or(self.shared, |case| case.claim.shared())
     }
 
     fn remove(&mut self, rt: &HostRuntime, name: &str) -> anyhow::Result<()> {
