@@ -1,5 +1,5 @@
 // A job as it runs: the systems by name, and the claim with its tables.
-ghost use Rattle.std.specs.Prelude.{◌≡◌, ◌≢◌, codes, is_ok, IfOk, IsSomeAnd, Some, None, Ok, Err};
+ghost use Rattle.std.specs.Prelude.{◌≡◌, ◌≢◌, ◌≤◌, length, codes, is_ok, IfOk, IsSomeAnd, Some, None, Ok, Err};
 ghost use Rattle.std.specs.BTreeMap.{get_by_text};
 ghost use Rattle.formulas.specs.declared.refusal.Refusal.TheVariants.{NoFormula};
 ghost use Rattle.formulas.specs.Tables.{stands_in, contents};
@@ -279,7 +279,9 @@ impl Session {
     }
 
     // The systems of a judge line, the first on top; the words between them are `over`.
-    fn stack_of(&self, words: &[&str], shared: ActionSet) -> anyhow::Result<Vec<Rc<AnySystem>>> {
+    fn stack_of(&self, words: &[&str], shared: ActionSet) -> anyhow::Result<Vec<Rc<AnySystem>>>
+        ensures { IfOk result (λ v. length v.items ≤ 6) }
+    {
         let mut stack = Vec::new(self.heap);
         for pair in words.chunks(2) {
             if let [name, ..] = pair {
