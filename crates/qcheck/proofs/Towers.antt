@@ -1,13 +1,10 @@
 -- A stack is piled from its end.
-use Rattle.std.proofs.Common.{◌≡◌, ℕ, ◌+◌, ◌<◌, ◌≤◌, Bool, cond, List, [], ◌∷◌, ◌++◌, length, IfOk, Some, None, Ok, Err, rc_value, Option, Result, sym, refl, ap, ◌∙◌, subst, ap₂, arith, length-append}
+use Rattle.std.proofs.Common.{◌≡◌, ℕ, ◌+◌, ◌≤◌, Bool, List, [], ◌∷◌, ◌++◌, length, IfOk, Some, None, Err, rc_value, Option, Result, sym, refl, ap, ◌∙◌, subst, ap₂, arith, length-append}
 use mathlib.Core.List.{map-append}
 use Rattle.std.specs.declared.rc.Rc.{Rc}
-use Rattle.std.proofs.lemmas.List.{length-map}
-use Rattle.std.proofs.lemmas.Bool.{lt-ltb, le-ltb}
 use Rattle.systems.specs.declared.actions.ActionSet.{ActionSet}
 use Rattle.systems.specs.declared.any.AnySystem.{AnySystem}
 use Rattle.systems.specs.declared.fault.Fault.{Fault}
-use Rattle.systems.specs.declared.fault.Fault.TheVariants.{Size}
 use Rattle.systems.specs.Actions.{has}
 use Rattle.systems.specs.Any.{any_meaning}
 use Rattle.systems.specs.Meaning.{Meaning}
@@ -16,7 +13,7 @@ use Rattle.systems.specs.Stacks.{stack}
 use Rattle.claims.specs.declared.claim.Claim.{Claim}
 use Rattle.formulas.specs.declared.tables.Tables.{Tables}
 use Rattle.qcheck.specs.declared.refused.Refused.TheVariants.{System}
-use Rattle.qcheck.specs.Answers.{Answer, answer_on, either_fault, pile_fault, unless, answer_over, answer_to, meanings, Told, ToldOver}
+use Rattle.qcheck.specs.Answers.{Answer, answer_on, either_fault, pile_fault, unless, answer_over, meanings, Told, ToldOver}
 
 -- the last of the systems over S is the one next to it
 stack-last : (A : ℕ → Bool) (Ms : List Meaning) (M S : Meaning) → stack A (Ms ++ (M ∷ [])) S ≡ stack A Ms (pile A M S)

@@ -1,5 +1,5 @@
 // A claim with the tables that hold its formula.
-ghost use Rattle.std.specs.Prelude.{◌≡◌, IfOk};
+ghost use Rattle.std.specs.Prelude.{◌≡◌, length, IfOk};
 ghost use Rattle.formulas.specs.Tables.{contents};
 ghost use Rattle.simplification.specs.Tables.{desk};
 ghost use Rattle.claims.specs.Simplifications.{Simplifies};
@@ -36,17 +36,17 @@ pub struct Case {
 
 impl Store {
     // Blank tables of this length.
-    pub fn blank(heap: Global, room: usize) -> Result<Store, AllocError> {
-        let nodes = vec![in heap; Node::State(StateNode::Yes); room]?;
-        let terms = vec![in heap; Term {
+    pub fn blank(heap: Global, room: usize) -> Result<Store, AllocError>
+        ensures { IfOk result (λ s. (length s.nodes.items ≡ room) × (length s.terms.items ≡ room) × (length s.alternatives.items ≡ room)) }
+    {
+        const TERM: Term = Term {
             coefficient: 0,
-            node: 0
-        }; room]?;
-        let alternatives = vec![in heap; 0u32; room]?;
+            node: 0,
+        };
         Ok(Store {
-            nodes,
-            terms,
-            alternatives,
+            nodes: vec![in heap; Node::State(StateNode::Yes); room]?,
+            terms: vec![in heap; TERM; room]?,
+            alternatives: vec![in heap; 0; room]?,
         })
     }
 

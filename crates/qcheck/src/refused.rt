@@ -4,7 +4,7 @@ ghost use Rattle.qcheck.specs.declared.refused.Refused.TheVariants.{System, Moun
 ghost use Rattle.qcheck.specs.Refusals.{number, place, layer};
 
 use claims::fault::Refusal;
-use formulas::fault::{GrammarFault, Layer, ReadFault};
+use formulas::fault::{Layer, ReadFault};
 use std::fmt;
 use systems::fault::{Fault, MountFault};
 
@@ -84,52 +84,6 @@ impl Refused {
             _ => None,
         }
     }
-
-    // What it means.
-    fn meaning(&self) -> &'static str {
-        match self {
-            Refused::System(Fault::Number) => {
-                "a number is outside its range or names nothing of the wanted kind, or put is take"
-            }
-            Refused::System(Fault::Size) | Refused::Claim(Refusal::Large) => {
-                "the system has too many states or is too broad"
-            }
-            Refused::System(Fault::Mass) | Refused::Claim(Refusal::Heavy) => {
-                "the product of the masses is above 10^15"
-            }
-            Refused::Mount(MountFault::Record(_)) => {
-                "the record at this place, one of its targets, or a size breaks a rule of components"
-            }
-            Refused::Mount(MountFault::Weights(_)) => {
-                "the weights of the move at this place do not add up to 1000"
-            }
-            Refused::Mount(MountFault::NoMemory) => "there is no memory for the component",
-            Refused::Read(ReadFault::Text(GrammarFault::Word(_))) => {
-                "the word is none of the language"
-            }
-            Refused::Read(ReadFault::Text(GrammarFault::Misplaced(_))) => {
-                "the word does not fit there, or the text ends early"
-            }
-            Refused::Read(ReadFault::Text(GrammarFault::OutOfRange(_))) => {
-                "the number is outside its range"
-            }
-            Refused::Read(ReadFault::Text(GrammarFault::TooMany(_))) => {
-                "more than 64 parentheses are open, or a sum has more than eight terms"
-            }
-            Refused::Read(ReadFault::Tables) | Refused::Claim(Refusal::Short) => {
-                "a table is too short for what has to be written"
-            }
-            Refused::Claim(Refusal::NoFormula) => "the tables do not hold the formula",
-        }
-    }
-}
-
-fn layer_name(layer: Layer) -> &'static str {
-    match layer {
-        Layer::Words => "words",
-        Layer::Grammar => "grammar",
-        Layer::Tables => "tables",
-    }
 }
 
 // Its number, place and layer, and in a line of its own what it means.
@@ -143,8 +97,13 @@ impl fmt::Display for Refused {
             write!(f, " at {place}")?;
         }
         if let Some(layer) = self.layer() {
-            write!(f, " ({})", layer_name(layer))?;
+            write!(f, " ({layer})")?;
         }
-        write!(f, "\n  {}", self.meaning())
+        match self {
+            Refused::System(fault) => write!(f, "\n  {fault}"),
+            Refused::Mount(fault) => write!(f, "\n  {fault}"),
+            Refused::Read(fault) => write!(f, "\n  {fault}"),
+            Refused::Claim(refusal) => write!(f, "\n  {refusal}"),
+        }
     }
 }

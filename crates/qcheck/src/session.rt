@@ -1,5 +1,6 @@
 // A job as it runs: the systems by name, and the claim with its tables.
-ghost use Rattle.std.specs.Prelude.{◌≡◌, is_ok, Ok, Err};
+ghost use Rattle.std.specs.Prelude.{◌≡◌, ◌≢◌, ◌≤◌, length, codes, is_ok, IfOk, IsSomeAnd, Some, None, Ok, Err};
+ghost use Rattle.std.specs.BTreeMap.{get_by_text};
 ghost use Rattle.formulas.specs.declared.refusal.Refusal.TheVariants.{NoFormula};
 ghost use Rattle.formulas.specs.Tables.{stands_in, contents};
 ghost use Rattle.claims.specs.Claims.{Opened};
@@ -47,7 +48,9 @@ pub struct Session {
 }
 
 impl Session {
-    pub fn new(heap: Global) -> Session {
+    pub fn new(heap: Global) -> Session
+        ensures { result.case ≡ None }
+    {
         Session {
             heap,
             shared: ActionSet::empty(),
@@ -111,13 +114,17 @@ impl Session {
     }
 
     // The system of a name.
-    fn find(&self, name: &str) -> anyhow::Result<Rc<AnySystem>> {
+    fn find(&self, name: &str) -> anyhow::Result<Rc<AnySystem>>
+        ensures { IfOk result (λ r. IsSomeAnd (get_by_text self.now.systems name.now) (λ s. r.value ≡ s.value)) }
+    {
         let system = self.systems.get(name).ok_or(LineFault::UnknownName(name))?;
         Ok(system.clone()?)
     }
 
     // Gives a system its name.
-    fn keep(&mut self, name: &str, system: AnySystem) -> anyhow::Result<()> {
+    fn keep(&mut self, name: &str, system: AnySystem) -> anyhow::Result<()>
+        ensures { IfOk result (λ _. IsSomeAnd (get_by_text self.new.systems name.now) (λ r. r.value ≡ system)) }
+    {
         let name = String::from_str(self.heap, name)?;
         let system = Rc::new(self.heap, system)?;
         self.systems.insert(name, system)?;
@@ -125,7 +132,9 @@ impl Session {
     }
 
     // A name may be given once, and is no word of the judge line.
-    fn check_fresh<'a>(&self, name: &'a str) -> Result<(), LineFault<'a>> {
+    fn check_fresh<'a>(&self, name: &'a str) -> Result<(), LineFault<'a>>
+        ensures { IfOk result (λ _. get_by_text self.now.systems name.now ≡ None) }
+    {
         if matches!(name, "empty" | "over") || self.systems.contains_key(name) {
             return Err(LineFault::NameTaken(name));
         }
@@ -220,11 +229,12 @@ impl Session {
     }
 
     // The shared actions of the claim, or those of the next one.
-    fn shared_actions(&self) -> ActionSet {
-        match &self.case {
-            Some(case) => case.claim.shared(),
-            None => self.shared,
-        }
+    fn shared_actions(&self) -> ActionSet
+        ensures { result ≡ elim self.now.case [ Some c ↦ c.claim.shared | None ↦ self.now.shared ] }
+    {
+        self.case
+            .as_ref()
+            .map_or(self.shared, |case| case.claim.shared())
     }
 
     fn remove(&mut self, rt: &HostRuntime, name: &str) -> anyhow::Result<()> {
@@ -269,7 +279,9 @@ impl Session {
     }
 
     // The systems of a judge line, the first on top; the words between them are `over`.
-    fn stack_of(&self, words: &[&str], shared: ActionSet) -> anyhow::Result<Vec<Rc<AnySystem>>> {
+    fn stack_of(&self, words: &[&str], shared: ActionSet) -> anyhow::Result<Vec<Rc<AnySystem>>>
+        ensures { IfOk result (λ v. length v.items ≤ 6) }
+    {
         let mut stack = Vec::new(self.heap);
         for pair in words.chunks(2) {
             if let [name, ..] = pair {
@@ -288,7 +300,10 @@ impl Session {
     }
 
     // The system of a name, or the empty system of a shared set.
-    fn system_of(&self, name: &str, shared: ActionSet) -> anyhow::Result<Rc<AnySystem>> {
+    fn system_of(&self, name: &str, shared: ActionSet) -> anyhow::Result<Rc<AnySystem>>
+        ensures empty { name.now ≡ codes "empty" → IfOk result (λ r. r.value ≡ AnySystem.Empty (record { shared = shared })) }
+        ensures named { name.now ≢ codes "empty" → IfOk result (λ r. IsSomeAnd (get_by_text self.now.systems name.now) (λ s. r.value ≡ s.value)) }
+    {
         if name == "empty" {
             return Ok(Rc::new(self.heap, AnySystem::Empty(Empty { shared }))?);
         }
@@ -348,13 +363,15 @@ impl Started {
 }
 
 // Reads a promise into the tables and opens it.
-fn read_claim(text: &str, store: &mut Store, shared: ActionSet) -> Result<Claim, Refused> {
+fn read_claim(text: &str, store: &mut Store, shared: ActionSet) -> Result<Claim, Refused>
+    ensures { IfOk result (λ c. (c.mass ≡ 1) × (c.shared ≡ shared)) }
+{
     let draft = read(
         text.as_bytes(),
         &mut TablesMut {
-            nodes: store.nodes.as_mut_slice(),
-            terms: store.terms.as_mut_slice(),
-            alternatives: store.alternatives.as_mut_slice(),
+            nodes: &mut store.nodes[..],
+            terms: &mut store.terms[..],
+            alternatives: &mut store.alternatives[..],
         },
     )?;
     Ok(open_on(draft, store.tables(), shared)?)

@@ -18,10 +18,12 @@ fn try_mount(
             let breadth = component.breadth();
             println!(rt; "{label}: {states} states, breadth {breadth}")?;
         }
-        Err(fault) => match (fault.number(), fault.place()) {
-            (Some(number), Some(place)) => println!(rt; "{label}: refused {number} at {place}")?,
-            _ => return Err(AllocError.into()),
-        },
+        Err(fault) => {
+            let (Some(number), Some(place)) = (fault.number(), fault.place()) else {
+                return Err(AllocError.into());
+            };
+            println!(rt; "{label}: refused {number} at {place}")?;
+        }
     }
     Ok(())
 }
@@ -42,30 +44,20 @@ const WHOLE: Target = Target {
 
 // The same move so many times, each to state 0.
 fn same_moves(heap: Global, count: usize) -> Result<Vec<MoveRecord>, AllocError> {
-    Vec::from_elem(
-        heap,
-        MoveRecord {
-            state: 0,
-            action: 0,
-            first: 0,
-            count: 1,
-        },
-        count,
-    )
+    let [record] = one_move(0, 0, 0, 1);
+    vec![in heap; record; count]
 }
 
 // So many moves, two for each state and action.
 fn spread_moves(heap: Global, count: u32) -> Result<Vec<MoveRecord>, AllocError> {
-    let mut moves = Vec::new(heap);
-    for i in 0..count {
-        moves.push(MoveRecord {
+    (0..count)
+        .map(|i| MoveRecord {
             state: i / 2 % 64,
             action: i / 128 % 32,
             first: 0,
             count: 1,
-        })?;
-    }
-    Ok(moves)
+        })
+        .collect(heap)
 }
 
 // So many targets of the same weight, and a last one.
@@ -75,7 +67,7 @@ fn many_targets(
     weight: u64,
     last: u64,
 ) -> Result<Vec<Target>, AllocError> {
-    let mut targets = Vec::from_elem(heap, Target { state: 0, weight }, count)?;
+    let mut targets = vec![in heap; Target { state: 0, weight }; count]?;
     targets.push(Target {
         state: 0,
         weight: last,
@@ -204,18 +196,8 @@ fn try_records(rt: &HostRuntime) -> anyhow::Result<()> {
         &[WHOLE, nothing],
     )?;
     try_mount(rt, "weights of 999", 1, &one_move(0, 0, 0, 1), &[light])?;
-    let first = MoveRecord {
-        state: 0,
-        action: 0,
-        first: 0,
-        count: 1,
-    };
-    let second = MoveRecord {
-        state: 9,
-        action: 0,
-        first: 0,
-        count: 1,
-    };
+    let [first] = one_move(0, 0, 0, 1);
+    let [second] = one_move(9, 0, 0, 1);
     try_mount(
         rt,
         "weights at 0 before a record at 1",

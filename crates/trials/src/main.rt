@@ -3,6 +3,7 @@
 
 mod claims_tried;
 mod components_tried;
+mod slots;
 mod texts_tried;
 
 use claims_tried::try_claims;

@@ -1,79 +1,49 @@
 // Texts at the limits of reading.
-use formulas::fault::{Layer, ReadFault};
-use formulas::node::{Node, StateNode, Term};
-use formulas::read::read;
-use formulas::tables::TablesMut;
-use std::alloc::{AllocError, Global};
+use crate::slots::{Blank, Slots};
+use formulas::fault::ReadFault;
+use formulas::node::{Fills, Node, StateNode, Term};
 use std::io;
 
-// What fills the tables before a reading, to see what it leaves.
-const BLANK_TERM: Term = Term {
-    coefficient: 77,
-    node: 77,
+const BLANK: Blank = Blank {
+    node: Node::State(StateNode::Not(77)),
+    term: Term {
+        coefficient: 77,
+        node: 77,
+    },
+    alternative: 77,
 };
-
-const BLANK_ALTERNATIVE: u32 = 77;
-
-// Three tables of given lengths.
-#[derive(Drop)]
-struct Slots {
-    nodes: Vec<Node>,
-    terms: Vec<Term>,
-    alternatives: Vec<u32>,
-}
-
-fn fresh_slots(
-    heap: Global,
-    nodes: usize,
-    terms: usize,
-    alternatives: usize,
-) -> Result<Slots, AllocError> {
-    Ok(Slots {
-        nodes: vec![in heap; Node::State(StateNode::Not(77)); nodes]?,
-        terms: vec![in heap; BLANK_TERM; terms]?,
-        alternatives: vec![in heap; BLANK_ALTERNATIVE; alternatives]?,
-    })
-}
-
-fn is_blank_node(node: Node) -> bool {
-    match node {
-        Node::State(StateNode::Not(i)) => i == 77,
-        _ => false,
-    }
-}
 
 // How many entries of the three tables are as they were.
 fn untouched(tables: &Slots) -> usize {
-    let mut count = 0usize;
-    for node in tables.nodes.iter() {
-        if is_blank_node(*node) {
-            count = count.saturating_add(1);
-        }
-    }
-    for term in tables.terms.iter() {
-        if term.coefficient == BLANK_TERM.coefficient && term.node == BLANK_TERM.node {
-            count = count.saturating_add(1);
-        }
-    }
-    for alternative in tables.alternatives.iter() {
-        if *alternative == BLANK_ALTERNATIVE {
-            count = count.saturating_add(1);
-        }
-    }
-    count
-}
-
-fn layer_name(layer: Layer) -> &'static str {
-    match layer {
-        Layer::Words => "words",
-        Layer::Grammar => "grammar",
-        Layer::Tables => "tables",
-    }
+    let nodes = tables
+        .nodes
+        .iter()
+        .filter(|node| matches!(node, Node::State(StateNode::Not(77))))
+        .count();
+    let terms = tables
+        .terms
+        .iter()
+        .filter(|term| {
+            matches!(
+                term,
+                Term {
+                    coefficient: 77,
+                    node: 77
+                }
+            )
+        })
+        .count();
+    let alternatives = tables
+        .alternatives
+        .iter()
+        .filter(|alternative| **alternative == BLANK.alternative)
+        .count();
+    nodes.saturating_add(terms).saturating_add(alternatives)
 }
 
 fn print_fault(rt: &HostRuntime, fault: &ReadFault) -> io::Result<()> {
     let number = fault.number();
-    let layer = layer_name(fault.layer());
+    let layer = fault.layer();
     match fault.place() {
         Some(place) => print!(rt; "refused {number} at {place} ({layer})"),
         None => print!(rt; "refused {number} ({layer})"),
@@ -83,19 +53,13 @@ fn print_fault(rt: &HostRuntime, fault: &ReadFault) -> io::Result<()> {
 // Reads a text into the tables, and prints the answer and how many entries are as they were.
 fn try_into(rt: &HostRuntime, label: &str, text: &[u8], tables: &mut Slots) -> io::Result<()> {
     print!(rt; "{label}: ")?;
-    match read(
-        text,
-        &mut TablesMut {
-            nodes: tables.nodes.as_mut_slice(),
-            terms: tables.terms.as_mut_slice(),
-            alternatives: tables.alternatives.as_mut_slice(),
-        },
-    ) {
+    match tables.read(text) {
         Ok(draft) => {
-            let fills = draft.fills();
-            let nodes = fills.nodes;
-            let terms = fills.terms;
-            let alternatives = fills.alternatives;
+            let Fills {
+                nodes,
+                terms,
+                alternatives,
+            } = draft.fills();
             let root = draft.root();
             print!(rt; "{nodes} nodes, {terms} terms, {alternatives} alternatives, root {root}")?;
         }
@@ -106,46 +70,28 @@ fn try_into(rt: &HostRuntime, label: &str, text: &[u8], tables: &mut Slots) -> i
 }
 
 fn try_text(rt: &HostRuntime, label: &str, text: &[u8]) -> anyhow::Result<()> {
-    let mut tables = fresh_slots(rt.alloc(), 100, 20, 20)?;
+    let mut tables = Slots::blank(rt.alloc(), BLANK, 100, 20, 20)?;
     Ok(try_into(rt, label, text, &mut tables)?)
 }
 
-// So many copies of a text, a middle, and so many copies of another.
-fn nested(
-    heap: Global,
-    open: &str,
-    count: usize,
-    middle: &str,
-    close: &str,
-) -> Result<String, AllocError> {
-    let mut text = String::new(heap);
-    for _ in 0..count {
-        text.push_str(open)?;
-    }
-    text.push_str(middle)?;
-    for _ in 0..count {
-        text.push_str(close)?;
-    }
-    Ok(text)
-}
-
 fn try_nots(rt: &HostRuntime, label: &str, count: usize) -> anyhow::Result<()> {
-    let text = nested(rt.alloc(), "(not ", count, "true", ")")?;
+    let heap = rt.alloc();
+    let nots = "(not ".repeat(heap, count)?;
+    let ends = ")".repeat(heap, count)?;
+    let text = format!(in heap; "{nots}true{ends}")?;
     try_text(rt, label, text.as_str().as_bytes())
 }
 
 fn try_sum(rt: &HostRuntime, label: &str, count: usize) -> anyhow::Result<()> {
     let heap = rt.alloc();
-    let products = nested(heap, "(* 1 (prob true)) ", count, "", "")?;
-    let products = products.as_str();
+    let products = "(* 1 (prob true)) ".repeat(heap, count)?;
     let text = format!(in heap; "(here (>= (+ {products}) 0))")?;
     try_text(rt, label, text.as_str().as_bytes())
 }
 
 fn try_digits(rt: &HostRuntime, label: &str, count: usize) -> anyhow::Result<()> {
     let heap = rt.alloc();
-    let digits = nested(heap, "9", count, "", "")?;
-    let digits = digits.as_str();
+    let digits = "9".repeat(heap, count)?;
     let text = format!(in heap; "(here (>= 0 {digits}))")?;
     try_text(rt, label, text.as_str().as_bytes())
 }
@@ -158,7 +104,7 @@ fn try_room(
     terms: usize,
     alternatives: usize,
 ) -> anyhow::Result<()> {
-    let mut tables = fresh_slots(rt.alloc(), nodes, terms, alternatives)?;
+    let mut tables = Slots::blank(rt.alloc(), BLANK, nodes, terms, alternatives)?;
     Ok(try_into(
         rt,
         label,
