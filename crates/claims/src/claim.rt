@@ -1,6 +1,7 @@
 // A formula with the mass removed from its system, and the actions that removed systems share.
 ghost use Rattle.std.specs.Prelude.{◌≡◌};
-ghost use Rattle.claims.specs.Bounds.{Few, Weighed};
+ghost use Rattle.formulas.specs.Tables.{Few};
+ghost use Rattle.claims.specs.Bounds.{Weighed};
 
 use formulas::node::Fills;
 use formulas::tables::Standing;

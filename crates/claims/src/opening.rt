@@ -11,7 +11,6 @@ use crate::law::runs_stand;
 use crate::tables::Tables;
 use formulas::draft::Draft;
 use formulas::stands::formula_in;
-use formulas::tables::Standing;
 use systems::actions::ActionSet;
 
 // The claim of a draft, if the tables hold its formula. A refused draft is given back.
@@ -19,10 +18,7 @@ fn claim_of(draft: Draft, tables: Tables, shared: ActionSet) -> Result<Claim, (D
     ensures accepted { is_ok result ≡ stands_in draft.fills draft.root 1 (contents tables.entry) }
     ensures outcome { elim result [ Ok c ↦ Opened draft shared c | Err e ↦ e ≡ (draft, NoFormula) ] }
 {
-    let standing = Standing {
-        fills: draft.fills(),
-        root: draft.root(),
-    };
+    let standing = draft.standing();
     let removed = 1;
     if !formula_in(standing, removed, tables) {
         return Err((draft, Refusal::NoFormula));

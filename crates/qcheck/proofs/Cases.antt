@@ -5,21 +5,28 @@ use Rattle.std.proofs.lemmas.List.{with_items_is}
 use Rattle.formulas.specs.declared.node.Node.{Node}
 use Rattle.formulas.specs.declared.node.Term.{Term}
 use Rattle.systems.specs.Meaning.{Meaning}
-use Rattle.formulas.specs.Tables.{slots}
+use Rattle.formulas.specs.declared.tables.TablesMut.{TablesMut}
+use Rattle.formulas.specs.Tables.{Slots, slots, held}
 use Rattle.claims.specs.declared.claim.Claim.{Claim}
 use Rattle.claims.specs.Books.{removing, Entry, entry, Stage, stage}
 use Rattle.claims.specs.Runs.{Step, remove, simplify, judge}
 use Rattle.qcheck.specs.declared.case.Case.{Case}
+use Rattle.qcheck.specs.declared.case.Store.{Store}
 use Rattle.formulas.specs.declared.node.Fills.{Fills}
 use Rattle.formulas.specs.declared.refusal.Refusal.{Refusal}
-use Rattle.qcheck.specs.Cases.{stage_of, left_by, Removal}
+use Rattle.qcheck.specs.Cases.{owned, stage_of, left_by, Removal}
 
-pub back : {Z : Type 0} (c : Claim) (nodes : Vec Node Z) (terms : Vec Term Z) (alternatives : Vec ℕ Z) (ns : List Node) (ts : List Term) (alts : List ℕ)
-    → length ns ≡ nodes.len → length ts ≡ terms.len → length alts ≡ alternatives.len
-    → stage c (slots ns ts alts) ≡ stage c (slots (vec_items (with_items nodes ns)) (vec_items (with_items terms ts)) (vec_items (with_items alternatives alts)))
-back c nodes terms alternatives ns ts alts en et ea =
-    ap₂ (λ xs ys. stage c (slots xs ys alts)) (sym (with_items_is nodes ns en)) (sym (with_items_is terms ts et))
-    ∙ ap (λ zs. stage c (slots (vec_items (with_items nodes ns)) (vec_items (with_items terms ts)) zs)) (sym (with_items_is alternatives alts ea))
+-- what is true of the tables that were lent is true of the vectors behind them
+pub owned_after : (P : Slots → Type 0) (s : Store) (left : TablesMut) {ns : List Node} {ts : List Term} {alts : List ℕ}
+    → ns ≡ left.nodes.now → ts ≡ left.terms.now → alts ≡ left.alternatives.now
+    → length left.nodes.now ≡ s.nodes.len → length left.terms.now ≡ s.terms.len → length left.alternatives.now ≡ s.alternatives.len
+    → P (held left)
+    → P (owned (record { nodes = with_items s.nodes ns; terms = with_items s.terms ts; alternatives = with_items s.alternatives alts }))
+owned_after P s left {ns} {ts} {alts} en et ea ln lt la p =
+    let nodes = sym (with_items_is s.nodes ns (ap length en ∙ ln) ∙ en) in
+    let terms = sym (with_items_is s.terms ts (ap length et ∙ lt) ∙ et) in
+    let alternatives = sym (with_items_is s.alternatives alts (ap length ea ∙ la) ∙ ea) in
+    subst P (ap₂ (λ xs ys. slots xs ys left.alternatives.now) nodes terms ∙ ap (slots (vec_items (with_items s.nodes ns)) (vec_items (with_items s.terms ts))) alternatives) p
 
 -- a refused call leaves the claim where it was
 unmoved : {g h : Stage} {e : Entry} → Step g e h → e.refused ≡ true → g ≡ h
