@@ -1,2 +1,2 @@
-pub mod Towers
+pub mod Piled
 pub mod Cases

@@ -50,6 +50,7 @@ impl Store {
         })
     }
 
+    // To be changed they are lent where they are needed: a function cannot promise what three loans leave.
     pub fn tables(&self) -> Tables
         ensures { contents result ≡ owned self.now }
     {

@@ -14,7 +14,6 @@ use claims::claim::Claim;
 use claims::fault::Refusal;
 use claims::opening::open;
 use claims::tables::{Tables, TablesMut};
-use claims::verdict::Verdict;
 use formulas::draft::Draft;
 use formulas::read::read;
 use std::alloc::{AllocError, Global};
@@ -328,8 +327,7 @@ impl Session {
             tables: case.store.tables(),
         };
         match judge_stack(&bench, &mut stack, lowest)? {
-            Ok(Verdict::Yes) => println!(rt; "{written}: yes")?,
-            Ok(Verdict::No) => println!(rt; "{written}: no")?,
+            Ok(verdict) => println!(rt; "{written}: {verdict}")?,
             Err(refused) => println!(rt; "{written}: {refused}")?,
         }
         Ok(())

@@ -45,11 +45,11 @@ struct Entries<'a, T>(&'a [T], Run);
 
 impl<T: Entry> fmt::Display for Entries<'_, T> {
     fn fmt<W: fmt::Write>(&self, f: &mut fmt::Formatter<W>) -> fmt::Result {
-        let Run { first, count } = self.1;
-        if count == 0 {
+        let Entries(table, run) = self;
+        if run.count == 0 {
             return f.write_str(" -");
         }
-        for entry in self.0.iter().skip(first as usize).take(count as usize) {
+        for entry in run.entries(table) {
             entry.put(f)?;
         }
         Ok(())

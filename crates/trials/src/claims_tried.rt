@@ -5,7 +5,6 @@ use claims::claim::Claim;
 use claims::judge::judge;
 use claims::opening::open;
 use claims::tables::Tables;
-use claims::verdict::Verdict;
 use formulas::draft::Draft;
 use formulas::node::{Node, StateNode, Term};
 use std::io;
@@ -57,8 +56,7 @@ impl Trial<'_> {
             truth.as_mut_slice(),
             row.as_mut_slice(),
         ) {
-            Ok(Verdict::Yes) => println!(rt; "{label}: yes")?,
-            Ok(Verdict::No) => println!(rt; "{label}: no")?,
+            Ok(verdict) => println!(rt; "{label}: {verdict}")?,
             Err(refusal) => {
                 let number = refusal.number();
                 println!(rt; "{label}: refused {number}")?;

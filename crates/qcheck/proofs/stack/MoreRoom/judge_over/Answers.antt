@@ -1,5 +1,5 @@
 use Rattle.std.proofs.Common.{vec_items}
-use Rattle.qcheck.proofs.Towers.{told_piled, answered_piled, answer-refused, one_fewer}
+use Rattle.qcheck.proofs.Piled.{told_piled, answered_piled, answer-refused, one_fewer}
 use Rattle.qcheck.proofs.stack.MoreRoom.judge_over.Goals as goal
 
 pub returns-in-Ok : goal.returns-in-Ok
