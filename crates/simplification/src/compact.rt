@@ -11,7 +11,7 @@ ghost use Rattle.simplification.specs.Packed.{all_lines, Packed};
 ghost use Rattle.simplification.specs.Moving.{FitStep, FitSum, FitState, FitDist, Fit, StateAt, DistAt, LaidAt};
 ghost use Rattle.simplification.specs.Compacting.{new_number, is_ticked, KeptAt, GoneAt, compacted};
 
-use crate::placed::{Ends, Placed};
+use crate::placed::{Ends, Placed, Step};
 use crate::reach::TICK;
 use crate::runs::move_run;
 use formulas::node::{DistNode, Fills, Node, Run, StateNode, Term};
@@ -19,27 +19,30 @@ use formulas::tables::TablesMut;
 
 // Moves the entries of a step.
 fn move_step(
-    action: u32,
-    moves: Run,
-    heres: Run,
+    of: Step,
     start: u32,
     alternatives: &mut [u32],
     numbers: &[u32],
 ) -> Placed<StateNode, u32>
-    requires { FitStep (λ d. d < length numbers.now) alternatives.old start moves heres }
-    ensures { StateAt (renumber (new_number numbers.now) (step action (entries alternatives.old moves) (entries alternatives.old heres))) start alternatives.old result.node result.end alternatives.new }
+    requires { FitStep (λ d. d < length numbers.now) alternatives.old start of.moves of.heres }
+    ensures { StateAt (renumber (new_number numbers.now) (step of.action (entries alternatives.old of.moves) (entries alternatives.old of.heres))) start alternatives.old result.node result.end alternatives.new }
 {
-    let middle = move_run(alternatives, moves, start, |d| Some(numbers[d as usize]));
-    let end = move_run(alternatives, heres, middle, |d| Some(numbers[d as usize]));
+    let middle = move_run(alternatives, of.moves, start, |d| Some(numbers[d as usize]));
+    let end = move_run(
+        alternatives,
+        of.heres,
+        middle,
+        |d| Some(numbers[d as usize]),
+    );
     let node = StateNode::Step {
-        action,
+        action: of.action,
         moves: Run {
             first: start,
-            ..moves
+            ..of.moves
         },
         heres: Run {
             first: middle,
-            ..heres
+            ..of.heres
         },
     };
     Placed { node, end }
@@ -63,7 +66,14 @@ fn move_state(
             action,
             moves,
             heres,
-        } => return move_step(action, moves, heres, start, alternatives, numbers),
+        } => {
+            let step = Step {
+                action,
+                moves,
+                heres,
+            };
+            return move_step(step, start, alternatives, numbers);
+        }
     };
     Placed { node, end: start }
 }
@@ -95,7 +105,7 @@ fn move_sum(
     Placed { node, end }
 }
 
-// The same on distributions: each sort's nodes are an enum of their own.
+// The same on distributions: each sort's nodes are an enum of their own, and a contract of one `And` is longer than its arm.
 fn move_dist(
     node: DistNode,
     start: u32,

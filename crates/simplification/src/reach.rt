@@ -49,27 +49,21 @@ fn tick_state(node: StateNode, alternatives: &[u32], ticks: &mut [u32])
 {
     match node {
         StateNode::Yes | StateNode::No => {}
-        StateNode::And(a, b) => {
-            ticks[a as usize] = TICK;
-            ticks[b as usize] = TICK;
-        }
-        StateNode::Not(a) => ticks[a as usize] = TICK,
+        StateNode::And(a, b) => tick_all(&[a, b], ticks),
+        StateNode::Not(a) => tick_all(&[a], ticks),
         StateNode::Step { moves, heres, .. } => tick_step(moves, heres, alternatives, ticks),
     }
 }
 
-// The same on distributions: each sort's nodes are an enum of their own.
+// The same on distributions: each sort's nodes are an enum of their own, and both hand their parts to one `tick_all`.
 fn tick_dist(node: DistNode, terms: &[Term], ticks: &mut [u32])
     requires { FitDist (λ d. d < length ticks.old) terms.now 0 node }
     ensures { ticks.new ≡ ticked ticks.old (parts (dist_line terms.now node)) }
 {
     match node {
         DistNode::Yes | DistNode::No => {}
-        DistNode::And(a, b) => {
-            ticks[a as usize] = TICK;
-            ticks[b as usize] = TICK;
-        }
-        DistNode::Not(a) => ticks[a as usize] = TICK,
+        DistNode::And(a, b) => tick_all(&[a, b], ticks),
+        DistNode::Not(a) => tick_all(&[a], ticks),
         DistNode::Sum { terms: run, .. } => tick_sum(run, terms, ticks),
     }
 }

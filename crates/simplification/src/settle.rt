@@ -9,13 +9,13 @@ ghost use Rattle.simplification.specs.Packed.{all_lines, Packed};
 ghost use Rattle.simplification.specs.Moving.{FitStep, FitSum, FitState, FitDist, Fit, Bare, StateAt, DistAt, LaidAt};
 ghost use Rattle.simplification.specs.Settling.{shade, glance_of, both_left, leaves, Led, LedBy, SettledAt, left_lines, left_numbers};
 
-use crate::placed::{Ends, Placed};
+use crate::placed::{Ends, Placed, Step};
 use crate::plain::Plain;
 use crate::runs::move_run;
 use formulas::node::{DistNode, Node, Run, StateNode, Term};
 use formulas::tables::TablesMut;
 
-// What a node is seen to be.
+// What a node is seen to be. No Option<bool>: the specs have a word for each of the three, and yes is no more present than no.
 #[derive(Clone, Copy, PartialEq)]
 pub(crate) enum Seen {
     Yes,
@@ -33,9 +33,10 @@ fn see(node: Node) -> Seen
     }
 }
 
-// The nodes before one that is settled. The map leads from each to the node that stands for it.
+// The number of a node that is settled, and the nodes before it. The map leads from each to the node that stands for it.
 #[derive(Clone, Copy)]
 pub(crate) struct Before<'a> {
+    pub number: u32,
     pub nodes: &'a [Node],
     pub map: &'a [u32],
 }
@@ -145,41 +146,49 @@ fn settle_not<N: Plain>(a: u32, before: Before) -> N
 }
 
 // An and with one yes part stands for the other part: its users take the number of that, and nobody reads its own place.
-fn settle_and<N: Plain>(i: u32, a: u32, b: u32, before: Before) -> (u32, N)
+fn settle_and<N: Plain>(a: u32, b: u32, before: Before) -> (u32, N)
     requires { LedBy before a × LedBy before b }
-    ensures to { result.0 ≡ (both_outcome i N.sort (tone_of (glance_of before.entry) a) (tone_of (glance_of before.entry) b) (glance_of before.entry a) (glance_of before.entry b)).to }
+    ensures to { result.0 ≡ (both_outcome before.entry.number N.sort (tone_of (glance_of before.entry) a) (tone_of (glance_of before.entry) b) (glance_of before.entry a) (glance_of before.entry b)).to }
     ensures left { Bare (N.node result.1) (both_left N.sort (tone_of (glance_of before.entry) a) (tone_of (glance_of before.entry) b) (glance_of before.entry a).to (glance_of before.entry b).to) }
 {
     let (left, right) = (before.map[a as usize], before.map[b as usize]);
     match (before.see(a), before.see(b)) {
-        (Seen::No, _) | (_, Seen::No) => (i, N::constant(false)),
-        (Seen::Yes, Seen::Yes) => (i, N::constant(true)),
+        (Seen::No, _) | (_, Seen::No) => (before.number, N::constant(false)),
+        (Seen::Yes, Seen::Yes) => (before.number, N::constant(true)),
         (Seen::Yes, Seen::Open) => (right, N::constant(true)),
         (Seen::Open, Seen::Yes) => (left, N::constant(true)),
-        (Seen::Open, Seen::Open) => (i, N::and(left, right)),
+        (Seen::Open, Seen::Open) => (before.number, N::and(left, right)),
     }
 }
 
 // A step is yes with a yes for here, and no with nothing left. A yes for moves decides nothing: there may be no move.
 fn settle_step(
-    action: u32,
-    moves: Run,
-    heres: Run,
+    of: Step,
     start: u32,
     before: Before,
     alternatives: &mut [u32],
 ) -> Placed<StateNode, u32>
-    requires { FitStep (LedBy before) alternatives.old start moves heres }
-    ensures { StateAt (leaves (glance_of before.entry) (step action (entries alternatives.old moves) (entries alternatives.old heres))) start alternatives.old result.node result.end alternatives.new }
+    requires { FitStep (LedBy before) alternatives.old start of.moves of.heres }
+    ensures { StateAt (leaves (glance_of before.entry) (step of.action (entries alternatives.old of.moves) (entries alternatives.old of.heres))) start alternatives.old result.node result.end alternatives.new }
 {
-    if before.some_yes(heres.entries(alternatives)) {
+    if before.some_yes(of.heres.entries(alternatives)) {
         return Placed {
             node: StateNode::Yes,
             end: start,
         };
     }
-    let middle = move_run(alternatives, moves, start, |d| before.alternative_left(d));
-    let end = move_run(alternatives, heres, middle, |d| before.alternative_left(d));
+    let middle = move_run(
+        alternatives,
+        of.moves,
+        start,
+        |d| before.alternative_left(d),
+    );
+    let end = move_run(
+        alternatives,
+        of.heres,
+        middle,
+        |d| before.alternative_left(d),
+    );
     if end == start {
         return Placed {
             node: StateNode::No,
@@ -187,7 +196,7 @@ fn settle_step(
         };
     }
     let node = StateNode::Step {
-        action,
+        action: of.action,
         moves: Run {
             first: start,
             count: middle - start,
@@ -237,27 +246,34 @@ fn settle_sum(
 
 // What becomes of a node of states.
 fn settle_state(
-    i: u32,
     node: StateNode,
     start: u32,
     before: Before,
     alternatives: &mut [u32],
 ) -> Turn<StateNode, u32>
     requires { FitState (LedBy before) alternatives.old start node }
-    ensures to { result.to ≡ (became i (glance_of before.entry) (state_line alternatives.old node)).to }
+    ensures to { result.to ≡ (became before.entry.number (glance_of before.entry) (state_line alternatives.old node)).to }
     ensures laid { StateAt (leaves (glance_of before.entry) (state_line alternatives.old node)) start alternatives.old result.placed.node result.placed.end alternatives.new }
 {
     let (to, node) = match node {
-        StateNode::Yes | StateNode::No => (i, node),
-        StateNode::Not(a) => (i, settle_not(a, before)),
-        StateNode::And(a, b) => settle_and(i, a, b, before),
+        StateNode::Yes | StateNode::No => (before.number, node),
+        StateNode::Not(a) => (before.number, settle_not(a, before)),
+        StateNode::And(a, b) => settle_and(a, b, before),
         StateNode::Step {
             action,
             moves,
             heres,
         } => {
-            let placed = settle_step(action, moves, heres, start, before, alternatives);
-            return Turn { to: i, placed };
+            let step = Step {
+                action,
+                moves,
+                heres,
+            };
+            let placed = settle_step(step, start, before, alternatives);
+            return Turn {
+                to: before.number,
+                placed,
+            };
         }
     };
     Turn {
@@ -268,26 +284,28 @@ fn settle_state(
 
 // The same on distributions: each sort's nodes are an enum of their own.
 fn settle_dist(
-    i: u32,
     node: DistNode,
     start: u32,
     before: Before,
     terms: &mut [Term],
 ) -> Turn<DistNode, u32>
     requires { FitDist (LedBy before) terms.old start node }
-    ensures to { result.to ≡ (became i (glance_of before.entry) (dist_line terms.old node)).to }
+    ensures to { result.to ≡ (became before.entry.number (glance_of before.entry) (dist_line terms.old node)).to }
     ensures laid { DistAt (leaves (glance_of before.entry) (dist_line terms.old node)) start terms.old result.placed.node result.placed.end terms.new }
 {
     let (to, node) = match node {
-        DistNode::Yes | DistNode::No => (i, node),
-        DistNode::Not(a) => (i, settle_not(a, before)),
-        DistNode::And(a, b) => settle_and(i, a, b, before),
+        DistNode::Yes | DistNode::No => (before.number, node),
+        DistNode::Not(a) => (before.number, settle_not(a, before)),
+        DistNode::And(a, b) => settle_and(a, b, before),
         DistNode::Sum {
             threshold,
             terms: run,
         } => {
             let placed = settle_sum(threshold, run, start, before, terms);
-            return Turn { to: i, placed };
+            return Turn {
+                to: before.number,
+                placed,
+            };
         }
     };
     Turn {
@@ -298,7 +316,6 @@ fn settle_dist(
 
 // The same for a node of either sort.
 fn settle_node(
-    i: u32,
     node: Node,
     start: Ends,
     before: Before,
@@ -306,12 +323,12 @@ fn settle_node(
     alternatives: &mut [u32],
 ) -> Turn<Node, Ends>
     requires { Fit (LedBy before) terms.old alternatives.old start.term start.alternative node }
-    ensures to { result.to ≡ (became i (glance_of before.entry) (line terms.old alternatives.old node)).to }
+    ensures to { result.to ≡ (became before.entry.number (glance_of before.entry) (line terms.old alternatives.old node)).to }
     ensures laid { LaidAt (leaves (glance_of before.entry) (line terms.old alternatives.old node)) start.term start.alternative terms.old alternatives.old result.placed.node result.placed.end.term result.placed.end.alternative terms.new alternatives.new }
 {
     match node {
         Node::State(s) => {
-            let Turn { to, placed } = settle_state(i, s, start.alternative, before, alternatives);
+            let Turn { to, placed } = settle_state(s, start.alternative, before, alternatives);
             Turn {
                 to,
                 placed: Placed {
@@ -324,7 +341,7 @@ fn settle_node(
             }
         }
         Node::Dist(d) => {
-            let Turn { to, placed } = settle_dist(i, d, start.term, before, terms);
+            let Turn { to, placed } = settle_dist(d, start.term, before, terms);
             Turn {
                 to,
                 placed: Placed {
@@ -340,7 +357,7 @@ fn settle_node(
 }
 
 // Settles node `i`: what is left of its entries goes to where those of the nodes before it end.
-// It takes slices: of one struct, the nodes could not be read while the entries change.
+// It takes slices: tried with one struct, and the borrow checker covers no field that is read while another is lent.
 fn settle_at(
     i: usize,
     ends: Ends,
@@ -355,8 +372,12 @@ fn settle_at(
     requires fit { Fit (Led nodes.old map.old) terms.old alternatives.old ends.term ends.alternative (slice_index_or nodes.old i blank_node) }
     ensures { SettledAt i ends.term ends.alternative (slots nodes.old terms.old alternatives.old) map.old result.term result.alternative (slots nodes.new terms.new alternatives.new) map.new }
 {
-    let before = Before { nodes, map };
-    let Turn { to, placed } = settle_node(i as u32, nodes[i], ends, before, terms, alternatives);
+    let before = Before {
+        number: i as u32,
+        nodes,
+        map,
+    };
+    let Turn { to, placed } = settle_node(nodes[i], ends, before, terms, alternatives);
     map[i] = to;
     nodes[i] = placed.node;
     placed.end
