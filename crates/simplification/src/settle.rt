@@ -1,12 +1,12 @@
 // The first pass over the tables: yes and no are worked into the nodes that use them.
 ghost use Rattle.std.specs.Prelude.{◌≡◌, ◌-◌, ◌^◌, ◌<◌, ◌≤◌, not, Some, None, [], length, if◌then◌else◌, slice_index_or};
 ghost use Rattle.std.specs.List.{AllByRecursion};
-ghost use Rattle.formulas.specs.Lines.{step, sum, entries, state_line, dist_line, line};
+ghost use Rattle.formulas.specs.Lines.{step, sum, entries, line};
 ghost use Rattle.formulas.specs.Tables.{slots, SameLoans, held, over, laid};
 ghost use Rattle.simplification.specs.Simplify.{tone, tone_of, is_yes, is_no, is_neither, retarget, both_outcome, non_line, became, coefficients, has_yes, terms_left, yes_part};
 ghost use Rattle.simplification.specs.Tables.{blank_node};
 ghost use Rattle.simplification.specs.Packed.{all_lines, Packed};
-ghost use Rattle.simplification.specs.Moving.{FitStep, FitSum, FitState, FitDist, Fit, Bare, StateAt, DistAt, LaidAt};
+ghost use Rattle.simplification.specs.Moving.{FitStep, FitSum, Fit, Bare, StateAt, DistAt, LaidAt};
 ghost use Rattle.simplification.specs.Settling.{shade, glance_of, both_left, leaves, Led, LedBy, SettledAt, left_lines, left_numbers};
 
 use crate::placed::{Ends, Placed, Step};
@@ -128,9 +128,9 @@ fn weigh(terms: &[Term], threshold: u64, before: Before) -> Rest
 
 // What becomes of a node: the number that its users take, and what stands at its place.
 #[derive(Clone, Copy)]
-pub(crate) struct Turn<N, E> {
+pub(crate) struct Turn {
     pub to: u32,
-    pub placed: Placed<N, E>,
+    pub placed: Placed<Node, Ends>,
 }
 
 // What is left of a not, by what its part is.
@@ -244,93 +244,37 @@ fn settle_sum(
     Placed { node, end }
 }
 
-// What becomes of a node of states.
-fn settle_state(
-    node: StateNode,
-    start: u32,
-    before: Before,
-    alternatives: &mut [u32],
-) -> Turn<StateNode, u32>
-    requires { FitState (LedBy before) alternatives.old start node }
-    ensures to { result.to ≡ (became before.entry.number (glance_of before.entry) (state_line alternatives.old node)).to }
-    ensures laid { StateAt (leaves (glance_of before.entry) (state_line alternatives.old node)) start alternatives.old result.placed.node result.placed.end alternatives.new }
-{
-    let (to, node) = match node {
-        StateNode::Yes | StateNode::No => (before.number, node),
-        StateNode::Not(a) => (before.number, settle_not(a, before)),
-        StateNode::And(a, b) => settle_and(a, b, before),
-        StateNode::Step {
-            action,
-            moves,
-            heres,
-        } => {
-            let step = Step {
-                action,
-                moves,
-                heres,
-            };
-            let placed = settle_step(step, start, before, alternatives);
-            return Turn {
-                to: before.number,
-                placed,
-            };
-        }
-    };
-    Turn {
-        to,
-        placed: Placed { node, end: start },
-    }
-}
-
-// The same on distributions: each sort's nodes are an enum of their own.
-fn settle_dist(
-    node: DistNode,
-    start: u32,
-    before: Before,
-    terms: &mut [Term],
-) -> Turn<DistNode, u32>
-    requires { FitDist (LedBy before) terms.old start node }
-    ensures to { result.to ≡ (became before.entry.number (glance_of before.entry) (dist_line terms.old node)).to }
-    ensures laid { DistAt (leaves (glance_of before.entry) (dist_line terms.old node)) start terms.old result.placed.node result.placed.end terms.new }
-{
-    let (to, node) = match node {
-        DistNode::Yes | DistNode::No => (before.number, node),
-        DistNode::Not(a) => (before.number, settle_not(a, before)),
-        DistNode::And(a, b) => settle_and(a, b, before),
-        DistNode::Sum {
-            threshold,
-            terms: run,
-        } => {
-            let placed = settle_sum(threshold, run, start, before, terms);
-            return Turn {
-                to: before.number,
-                placed,
-            };
-        }
-    };
-    Turn {
-        to,
-        placed: Placed { node, end: start },
-    }
-}
-
-// The same for a node of either sort.
+// What becomes of a node.
 fn settle_node(
     node: Node,
     start: Ends,
     before: Before,
     terms: &mut [Term],
     alternatives: &mut [u32],
-) -> Turn<Node, Ends>
+) -> Turn
     requires { Fit (LedBy before) terms.old alternatives.old start.term start.alternative node }
     ensures to { result.to ≡ (became before.entry.number (glance_of before.entry) (line terms.old alternatives.old node)).to }
     ensures laid { LaidAt (leaves (glance_of before.entry) (line terms.old alternatives.old node)) start.term start.alternative terms.old alternatives.old result.placed.node result.placed.end.term result.placed.end.alternative terms.new alternatives.new }
 {
-    match node {
-        Node::State(s) => {
-            let Turn { to, placed } = settle_state(s, start.alternative, before, alternatives);
-            Turn {
-                to,
+    let (to, node) = match node {
+        Node::State(StateNode::Not(a)) => (before.number, Node::State(settle_not(a, before))),
+        Node::State(StateNode::And(a, b)) => {
+            let (to, left) = settle_and(a, b, before);
+            (to, Node::State(left))
+        }
+        Node::State(StateNode::Step {
+            action,
+            moves,
+            heres,
+        }) => {
+            let step = Step {
+                action,
+                moves,
+                heres,
+            };
+            let placed = settle_step(step, start.alternative, before, alternatives);
+            return Turn {
+                to: before.number,
                 placed: Placed {
                     node: Node::State(placed.node),
                     end: Ends {
@@ -338,12 +282,20 @@ fn settle_node(
                         ..start
                     },
                 },
-            }
+            };
         }
-        Node::Dist(d) => {
-            let Turn { to, placed } = settle_dist(d, start.term, before, terms);
-            Turn {
-                to,
+        Node::Dist(DistNode::Not(a)) => (before.number, Node::Dist(settle_not(a, before))),
+        Node::Dist(DistNode::And(a, b)) => {
+            let (to, left) = settle_and(a, b, before);
+            (to, Node::Dist(left))
+        }
+        Node::Dist(DistNode::Sum {
+            threshold,
+            terms: run,
+        }) => {
+            let placed = settle_sum(threshold, run, start.term, before, terms);
+            return Turn {
+                to: before.number,
                 placed: Placed {
                     node: Node::Dist(placed.node),
                     end: Ends {
@@ -351,8 +303,13 @@ fn settle_node(
                         ..start
                     },
                 },
-            }
+            };
         }
+        _ => (before.number, node),
+    };
+    Turn {
+        to,
+        placed: Placed { node, end: start },
     }
 }
 
