@@ -86,50 +86,45 @@ fn move_node(
     requires { Fit (λ d. d < length numbers.now) terms.old alternatives.old start.term start.alternative node }
     ensures { LaidAt (renumber (new_number numbers.now) (line terms.old alternatives.old node)) start.term start.alternative terms.old alternatives.old result.node result.end.term result.end.alternative terms.new alternatives.new }
 {
+    let mut end = start;
     let node = match node {
         Node::State(StateNode::And(a, b)) => {
             Node::State(StateNode::And(numbers[a as usize], numbers[b as usize]))
         }
         Node::State(StateNode::Not(a)) => Node::State(StateNode::Not(numbers[a as usize])),
-        Node::State(StateNode::Step {
-            action,
-            moves,
-            heres,
-        }) => {
+        Node::State(
+            StateNode::Step {
+                action,
+                moves,
+                heres,
+            },
+        ) => {
             let step = Step {
                 action,
                 moves,
                 heres,
             };
             let moved = move_step(step, start.alternative, alternatives, numbers);
-            return Placed {
-                node: Node::State(moved.node),
-                end: Ends {
-                    alternative: moved.end,
-                    ..start
-                },
-            };
+            end.alternative = moved.end;
+            Node::State(moved.node)
         }
         Node::Dist(DistNode::And(a, b)) => {
             Node::Dist(DistNode::And(numbers[a as usize], numbers[b as usize]))
         }
         Node::Dist(DistNode::Not(a)) => Node::Dist(DistNode::Not(numbers[a as usize])),
-        Node::Dist(DistNode::Sum {
-            threshold,
-            terms: run,
-        }) => {
+        Node::Dist(
+            DistNode::Sum {
+                threshold,
+                terms: run,
+            },
+        ) => {
             let moved = move_sum(threshold, run, start.term, terms, numbers);
-            return Placed {
-                node: Node::Dist(moved.node),
-                end: Ends {
-                    term: moved.end,
-                    ..start
-                },
-            };
+            end.term = moved.end;
+            Node::Dist(moved.node)
         }
         _ => node,
     };
-    Placed { node, end: start }
+    Placed { node, end }
 }
 
 // Moves node `i` to the end of what is used, if it is ticked, and notes its new number.

@@ -256,60 +256,49 @@ fn settle_node(
     ensures to { result.to ≡ (became before.entry.number (glance_of before.entry) (line terms.old alternatives.old node)).to }
     ensures laid { LaidAt (leaves (glance_of before.entry) (line terms.old alternatives.old node)) start.term start.alternative terms.old alternatives.old result.placed.node result.placed.end.term result.placed.end.alternative terms.new alternatives.new }
 {
+    let mut end = start;
     let (to, node) = match node {
         Node::State(StateNode::Not(a)) => (before.number, Node::State(settle_not(a, before))),
         Node::State(StateNode::And(a, b)) => {
             let (to, left) = settle_and(a, b, before);
             (to, Node::State(left))
         }
-        Node::State(StateNode::Step {
-            action,
-            moves,
-            heres,
-        }) => {
+        Node::State(
+            StateNode::Step {
+                action,
+                moves,
+                heres,
+            },
+        ) => {
             let step = Step {
                 action,
                 moves,
                 heres,
             };
             let placed = settle_step(step, start.alternative, before, alternatives);
-            return Turn {
-                to: before.number,
-                placed: Placed {
-                    node: Node::State(placed.node),
-                    end: Ends {
-                        alternative: placed.end,
-                        ..start
-                    },
-                },
-            };
+            end.alternative = placed.end;
+            (before.number, Node::State(placed.node))
         }
         Node::Dist(DistNode::Not(a)) => (before.number, Node::Dist(settle_not(a, before))),
         Node::Dist(DistNode::And(a, b)) => {
             let (to, left) = settle_and(a, b, before);
             (to, Node::Dist(left))
         }
-        Node::Dist(DistNode::Sum {
-            threshold,
-            terms: run,
-        }) => {
+        Node::Dist(
+            DistNode::Sum {
+                threshold,
+                terms: run,
+            },
+        ) => {
             let placed = settle_sum(threshold, run, start.term, before, terms);
-            return Turn {
-                to: before.number,
-                placed: Placed {
-                    node: Node::Dist(placed.node),
-                    end: Ends {
-                        term: placed.end,
-                        ..start
-                    },
-                },
-            };
+            end.term = placed.end;
+            (before.number, Node::Dist(placed.node))
         }
         _ => (before.number, node),
     };
     Turn {
         to,
-        placed: Placed { node, end: start },
+        placed: Placed { node, end },
     }
 }
 
