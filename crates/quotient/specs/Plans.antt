@@ -98,42 +98,30 @@ pub record LightTarget (x : Plan) (t : Target) : Type 0 where
   pub light : t.weight ≤ x.mass
 
 -- a node with its parts renumbered
-abbrev pub moved_state : (ℕ → ℕ) → StateNode → StateNode
-moved_state f sn.TheVariants.Yes = sn.TheVariants.Yes
-moved_state f sn.TheVariants.No = sn.TheVariants.No
-moved_state f (sn.TheVariants.And i j) = sn.TheVariants.And (f i) (f j)
-moved_state f (sn.TheVariants.Not i) = sn.TheVariants.Not (f i)
-moved_state f (sn.TheVariants.Step a ms hs) = sn.TheVariants.Step a ms hs
-
-abbrev pub moved_dist : (ℕ → ℕ) → DistNode → DistNode
-moved_dist f dn.TheVariants.Yes = dn.TheVariants.Yes
-moved_dist f dn.TheVariants.No = dn.TheVariants.No
-moved_dist f (dn.TheVariants.And i j) = dn.TheVariants.And (f i) (f j)
-moved_dist f (dn.TheVariants.Not i) = dn.TheVariants.Not (f i)
-moved_dist f (dn.TheVariants.Sum t ks) = dn.TheVariants.Sum t ks
-
 abbrev pub moved : (ℕ → ℕ) → Node → Node
-moved f (State x) = State (moved_state f x)
-moved f (Dist x) = Dist (moved_dist f x)
+moved f (State sn.TheVariants.Yes) = State sn.TheVariants.Yes
+moved f (State sn.TheVariants.No) = State sn.TheVariants.No
+moved f (State (sn.TheVariants.And i j)) = State (sn.TheVariants.And (f i) (f j))
+moved f (State (sn.TheVariants.Not i)) = State (sn.TheVariants.Not (f i))
+moved f (State (sn.TheVariants.Step a ms hs)) = State (sn.TheVariants.Step a ms hs)
+moved f (Dist dn.TheVariants.Yes) = Dist dn.TheVariants.Yes
+moved f (Dist dn.TheVariants.No) = Dist dn.TheVariants.No
+moved f (Dist (dn.TheVariants.And i j)) = Dist (dn.TheVariants.And (f i) (f j))
+moved f (Dist (dn.TheVariants.Not i)) = Dist (dn.TheVariants.Not (f i))
+moved f (Dist (dn.TheVariants.Sum t ks)) = Dist (dn.TheVariants.Sum t ks)
 
 -- neither a step nor a sum, and the parts are among n nodes
-abbrev pub PlainState : ℕ → StateNode → Type 0
-PlainState n sn.TheVariants.Yes = Unit {0}
-PlainState n sn.TheVariants.No = Unit {0}
-PlainState n (sn.TheVariants.And i j) = (i < n) × (j < n)
-PlainState n (sn.TheVariants.Not i) = i < n
-PlainState n (sn.TheVariants.Step a ms hs) = ⊥
-
-abbrev pub PlainDist : ℕ → DistNode → Type 0
-PlainDist n dn.TheVariants.Yes = Unit {0}
-PlainDist n dn.TheVariants.No = Unit {0}
-PlainDist n (dn.TheVariants.And i j) = (i < n) × (j < n)
-PlainDist n (dn.TheVariants.Not i) = i < n
-PlainDist n (dn.TheVariants.Sum t ks) = ⊥
-
 abbrev pub Plain : ℕ → Node → Type 0
-Plain n (State x) = PlainState n x
-Plain n (Dist x) = PlainDist n x
+Plain n (State sn.TheVariants.Yes) = Unit {0}
+Plain n (State sn.TheVariants.No) = Unit {0}
+Plain n (State (sn.TheVariants.And i j)) = (i < n) × (j < n)
+Plain n (State (sn.TheVariants.Not i)) = i < n
+Plain n (State (sn.TheVariants.Step a ms hs)) = ⊥
+Plain n (Dist dn.TheVariants.Yes) = Unit {0}
+Plain n (Dist dn.TheVariants.No) = Unit {0}
+Plain n (Dist (dn.TheVariants.And i j)) = (i < n) × (j < n)
+Plain n (Dist (dn.TheVariants.Not i)) = i < n
+Plain n (Dist (dn.TheVariants.Sum t ks)) = ⊥
 
 -- the lines of the quotient
 abbrev pub plan_quotient : Meaning → Plan → List Line

@@ -46,16 +46,15 @@ pub(crate) fn fill_firsts<S: System>(system: &S, firsts: &mut [u32]) -> u32
 {
     let n = system.states();
     let mut next = n;
-    // By index: of what is written through `iter_mut` a proof knows the length alone.
-    for i in 0..n * ACTIONS {
-        firsts[i as usize] = next;
-        next += system.moves(i / ACTIONS, i % ACTIONS);
+    for (i, first) in firsts[..(n * ACTIONS) as usize].iter_mut().enumerate() {
+        *first = next;
+        next += system.moves(i as u32 / ACTIONS, i as u32 % ACTIONS);
     }
     next
 }
 
 // How many lines a node gives.
-fn width(node: Node, states: u32, rows: u32) -> u32
+pub(crate) fn width(node: Node, states: u32, rows: u32) -> u32
     ensures { result ≡ node_width states rows node }
 {
     match node {

@@ -8,10 +8,10 @@ ghost use Rattle.formulas.specs.Layout.{fills};
 ghost use Rattle.formulas.specs.Stores.{store};
 ghost use Rattle.formulas.specs.Tables.{slots, fits, laid};
 ghost use Rattle.quotient.specs.Layings.{extended, filled, SameSlots, SameTables, lay, lay_all};
-ghost use Rattle.quotient.specs.Plans.{plan_nodes, place_in, AllInside, Fit, AllFit, LightTerm, LightTarget, plan_quotient, moved_state, moved_dist, moved, PlainState, PlainDist, Plain, node_width, node_line, node_lines, term_at, sum_at, step_node, sum_node};
+ghost use Rattle.quotient.specs.Plans.{plan_nodes, place_in, AllInside, Fit, AllFit, LightTerm, LightTarget, plan_quotient, moved, Plain, node_width, node_line, node_lines, term_at, sum_at, step_node, sum_node};
 ghost use Rattle.quotient.specs.Quotient.{moves_of};
 
-use crate::plan::{ACTIONS, Division};
+use crate::plan::{ACTIONS, Division, width};
 use formulas::append::AppendList;
 use formulas::node::{DistNode, Node, Run, StateNode, Term};
 use systems::system::{System, Target};
@@ -30,6 +30,14 @@ pub(crate) struct Step {
     action: u32,
     moves: Run,
     heres: Run,
+}
+
+// How a system can go along with a step: the state it is in, whether it shares the action, and the rows of its moves on it.
+#[derive(Clone, Copy)]
+pub(crate) struct Ways {
+    state: u32,
+    shared: bool,
+    rows: Run,
 }
 
 // A sum of a formula: its threshold, and the run of its terms.
@@ -86,51 +94,34 @@ impl<'a, S: System> Division<'a, S> {
         }
     }
 
-    // Appends the move alternatives of a step in the state `p`: on a shared action at the moves, else at the point.
-    fn put_move_parts(
-        &self,
-        shared: bool,
-        parts: &[u32],
-        p: u32,
-        rows: Run,
-        out: &mut AppendList<u32>,
-    )
+    // Appends the move alternatives of a step: on a shared action at the moves, else at the point.
+    fn put_move_parts(&self, parts: &[u32], ways: Ways, out: &mut AppendList<u32>)
         requires inside { AllInside self.now.plan parts.now }
-        requires point { p ≤ 1073741824 }
-        requires small { rows.first + rows.count ≤ 1073741824 }
+        requires point { ways.state ≤ 1073741824 }
+        requires small { ways.rows.first + ways.rows.count ≤ 1073741824 }
         ensures same { SameSlots out.old out.new }
-        ensures wrote { table out.new ≡ extended (table out.old) (if shared then cross (place_in self.now.plan) parts.now (range_with_len rows.first rows.count) else map (λ d. place_in self.now.plan d p) parts.now) }
+        ensures wrote { table out.new ≡ extended (table out.old) (if ways.shared then cross (place_in self.now.plan) parts.now (range_with_len ways.rows.first ways.rows.count) else map (λ d. place_in self.now.plan d ways.state) parts.now) }
     {
-        if shared {
-            self.put_crossed(parts, rows, out);
+        if ways.shared {
+            self.put_crossed(parts, ways.rows, out);
         } else {
-            self.put_places(parts, p, out);
+            self.put_places(parts, ways.state, out);
         }
     }
 
     // Appends the here alternatives: on an action that is not shared, the old move alternatives at the moves come first.
-    fn put_here_parts(
-        &self,
-        shared: bool,
-        parts: &[u32],
-        heres: &[u32],
-        p: u32,
-        rows: Run,
-        out: &mut AppendList<u32>,
-    )
+    fn put_here_parts(&self, parts: &[u32], heres: &[u32], ways: Ways, out: &mut AppendList<u32>)
         requires inside { AllInside self.now.plan parts.now }
         requires heres { AllInside self.now.plan heres.now }
-        requires point { p ≤ 1073741824 }
-        requires small { rows.first + rows.count ≤ 1073741824 }
+        requires point { ways.state ≤ 1073741824 }
+        requires small { ways.rows.first + ways.rows.count ≤ 1073741824 }
         ensures same { SameSlots out.old out.new }
-        ensures wrote { table out.new ≡ extended (table out.old) (if shared then map (λ d. place_in self.now.plan d p) heres.now else cross (place_in self.now.plan) parts.now (range_with_len rows.first rows.count) ++ map (λ d. place_in self.now.plan d p) heres.now) }
+        ensures wrote { table out.new ≡ extended (table out.old) (if ways.shared then map (λ d. place_in self.now.plan d ways.state) heres.now else cross (place_in self.now.plan) parts.now (range_with_len ways.rows.first ways.rows.count) ++ map (λ d. place_in self.now.plan d ways.state) heres.now) }
     {
-        if shared {
-            self.put_places(heres, p, out);
-        } else {
-            self.put_crossed(parts, rows, out);
-            self.put_places(heres, p, out);
+        if !ways.shared {
+            self.put_crossed(parts, ways.rows, out);
         }
+        self.put_places(heres, ways.state, out);
     }
 
     // Writes the line of a step in the state `p`.
@@ -141,14 +132,17 @@ impl<'a, S: System> Division<'a, S> {
         ensures wrote { filled out.new ≡ lay (filled out.old) (node_line (S.meaning self.now.system.now) self.now.plan (step_node step) p) }
     {
         let alternatives = self.plan.tables.alternatives;
-        let shared = self.plan.shared.contains(step.action);
-        let rows = self.rows_of(p, step.action);
+        let ways = Ways {
+            state: p,
+            shared: self.plan.shared.contains(step.action),
+            rows: self.rows_of(p, step.action),
+        };
         let parts = step.moves.entries(alternatives);
         let here_parts = step.heres.entries(alternatives);
         let first = out.alternatives.fill;
-        self.put_move_parts(shared, parts, p, rows, out.alternatives);
+        self.put_move_parts(parts, ways, out.alternatives);
         let middle = out.alternatives.fill;
-        self.put_here_parts(shared, parts, here_parts, p, rows, out.alternatives);
+        self.put_here_parts(parts, here_parts, ways, out.alternatives);
         let end = out.alternatives.fill;
         let moves = Run {
             first,
@@ -251,32 +245,17 @@ impl<'a, S: System> Division<'a, S> {
         ensures { result.now ≡ slice_index_or ((S.meaning self.now.system.now).moves state action) number [] }
     {
         let count = self.system.targets(state, action, number);
-        for index in 0..count {
-            buffer[index as usize] = self.system.target(state, action, number, index).unwrap();
+        for (index, slot) in buffer[..count as usize].iter_mut().enumerate() {
+            *slot = self
+                .system
+                .target(state, action, number, index as u32)
+                .unwrap();
         }
-        &buffer[0..count as usize]
+        &buffer[..count as usize]
     }
 
-    // Writes the line of a sum at a move, whose targets are asked for once.
-    fn put_sum_along(
-        &self,
-        sum: Sum,
-        state: u32,
-        action: u32,
-        number: u32,
-        buffer: &mut [Target; MOST_TARGETS],
-        out: &mut Lists,
-    )
-        requires inside { number < length ((S.meaning self.now.system.now).moves state action) }
-        requires fit { Fit self.now.plan (sum_node sum) }
-        ensures same { SameTables out.old out.new }
-        ensures wrote { filled out.new ≡ lay (filled out.old) (sum_at self.now.plan sum (slice_index_or ((S.meaning self.now.system.now).moves state action) number [])) }
-    {
-        let targets = self.read_targets(state, action, number, buffer);
-        self.put_sum(sum, targets, out);
-    }
-
-    // Writes the lines of a sum at the moves of a state on an action.
+    // Writes the lines of a sum at the moves of a state on an action, asking for the targets of each once.
+    // The buffer is no part of the lists: it is read while they are written.
     fn put_sums_on(
         &self,
         sum: Sum,
@@ -290,7 +269,8 @@ impl<'a, S: System> Division<'a, S> {
         ensures wrote { filled out.new ≡ lay_all (filled out.old) (map (sum_at self.now.plan sum) ((S.meaning self.now.system.now).moves state action)) }
     {
         for k in 0..self.system.moves(state, action) {
-            self.put_sum_along(sum, state, action, k, buffer, out);
+            let targets = self.read_targets(state, action, k, buffer);
+            self.put_sum(sum, targets, out);
         }
     }
 
@@ -332,89 +312,33 @@ impl<'a, S: System> Division<'a, S> {
         self.put_sums_along(sum, buffer, out);
     }
 
-    // A state node that is no step, at the state `p`.
-    fn state_at(&self, node: StateNode, p: u32) -> StateNode
-        requires plain { PlainState (length (plan_nodes self.now.plan)) node }
-        requires small { p ≤ 1073741824 }
-        ensures { result ≡ moved_state (λ d. place_in self.now.plan d p) node }
-    {
-        match node {
-            StateNode::And(i, j) => StateNode::And(self.place(i, p), self.place(j, p)),
-            StateNode::Not(i) => StateNode::Not(self.place(i, p)),
-            _ => node,
-        }
-    }
-
-    // A distribution node that is no sum, at the row `p`.
-    fn dist_at(&self, node: DistNode, p: u32) -> DistNode
-        requires plain { PlainDist (length (plan_nodes self.now.plan)) node }
-        requires small { p ≤ 1073741824 }
-        ensures { result ≡ moved_dist (λ d. place_in self.now.plan d p) node }
-    {
-        match node {
-            DistNode::And(i, j) => DistNode::And(self.place(i, p), self.place(j, p)),
-            DistNode::Not(i) => DistNode::Not(self.place(i, p)),
-            _ => node,
-        }
-    }
-
+    // A node that is neither a step nor a sum, at the state or row `p`.
     fn node_at(&self, node: Node, p: u32) -> Node
         requires plain { Plain (length (plan_nodes self.now.plan)) node }
         requires small { p ≤ 1073741824 }
         ensures { result ≡ moved (λ d. place_in self.now.plan d p) node }
     {
         match node {
-            Node::State(x) => Node::State(self.state_at(x, p)),
-            Node::Dist(x) => Node::Dist(self.dist_at(x, p)),
+            Node::State(StateNode::And(i, j)) => {
+                Node::State(StateNode::And(self.place(i, p), self.place(j, p)))
+            }
+            Node::State(StateNode::Not(i)) => Node::State(StateNode::Not(self.place(i, p))),
+            Node::Dist(DistNode::And(i, j)) => {
+                Node::Dist(DistNode::And(self.place(i, p), self.place(j, p)))
+            }
+            Node::Dist(DistNode::Not(i)) => Node::Dist(DistNode::Not(self.place(i, p))),
+            _ => node,
         }
     }
 
-    // Writes the lines of a node that is neither a step nor a sum, at each of `width` states or rows.
-    fn put_plain(&self, node: Node, width: u32, out: &mut Lists)
+    // Writes the lines of a node that is neither a step nor a sum, at each state or row.
+    fn put_plain(&self, node: Node, out: &mut Lists)
         requires plain { Plain (length (plan_nodes self.now.plan)) node }
-        requires width { width ≡ node_width self.now.plan.states self.now.plan.rows node }
         ensures same { SameTables out.old out.new }
         ensures wrote { filled out.new ≡ lay_all (filled out.old) (node_lines (S.meaning self.now.system.now) self.now.plan node) }
     {
-        for p in 0..width {
+        for p in 0..width(node, self.plan.states, self.plan.rows) {
             out.nodes.put(self.node_at(node, p));
-        }
-    }
-
-    // Writes the lines of a state node.
-    fn put_state(&self, node: StateNode, out: &mut Lists)
-        requires fit { Fit self.now.plan (Node.State node) }
-        ensures same { SameTables out.old out.new }
-        ensures wrote { filled out.new ≡ lay_all (filled out.old) (node_lines (S.meaning self.now.system.now) self.now.plan (Node.State node)) }
-    {
-        match node {
-            StateNode::Step {
-                action,
-                moves,
-                heres,
-            } => self.put_steps(
-                Step {
-                    action,
-                    moves,
-                    heres,
-                },
-                out,
-            ),
-            _ => self.put_plain(Node::State(node), self.plan.states, out),
-        }
-    }
-
-    // Writes the lines of a distribution node.
-    fn put_dist(&self, node: DistNode, buffer: &mut [Target; MOST_TARGETS], out: &mut Lists)
-        requires fit { Fit self.now.plan (Node.Dist node) }
-        ensures same { SameTables out.old out.new }
-        ensures wrote { filled out.new ≡ lay_all (filled out.old) (node_lines (S.meaning self.now.system.now) self.now.plan (Node.Dist node)) }
-    {
-        match node {
-            DistNode::Sum { threshold, terms } => {
-                self.put_sums(Sum { threshold, terms }, buffer, out)
-            }
-            _ => self.put_plain(Node::Dist(node), self.plan.rows, out),
         }
     }
 
@@ -425,8 +349,24 @@ impl<'a, S: System> Division<'a, S> {
         ensures wrote { filled out.new ≡ lay_all (filled out.old) (node_lines (S.meaning self.now.system.now) self.now.plan node) }
     {
         match node {
-            Node::State(x) => self.put_state(x, out),
-            Node::Dist(x) => self.put_dist(x, buffer, out),
+            Node::State(
+                StateNode::Step {
+                    action,
+                    moves,
+                    heres,
+                },
+            ) => self.put_steps(
+                Step {
+                    action,
+                    moves,
+                    heres,
+                },
+                out,
+            ),
+            Node::Dist(DistNode::Sum { threshold, terms }) => {
+                self.put_sums(Sum { threshold, terms }, buffer, out)
+            }
+            _ => self.put_plain(node, out),
         }
     }
 

@@ -27,23 +27,18 @@ pub record FitSum (Q : ℕ → Type 0) (ts : List Term) (p : ℕ) (r : Run) : Ty
   pub small : length ts < 2 ^ 32
   pub parts : AllByRecursion (λ k. Q k.node) (entries ts r)
 
-abbrev pub FitState : (ℕ → Type 0) → List ℕ → ℕ → StateNode → Type 0
-FitState Q alts p sn.TheVariants.Yes = Unit {0}
-FitState Q alts p sn.TheVariants.No = Unit {0}
-FitState Q alts p (sn.TheVariants.And i j) = Q i × Q j
-FitState Q alts p (sn.TheVariants.Not i) = Q i
-FitState Q alts p (sn.TheVariants.Step a mv h) = FitStep Q alts p mv h
-
-abbrev pub FitDist : (ℕ → Type 0) → List Term → ℕ → DistNode → Type 0
-FitDist Q ts p dn.TheVariants.Yes = Unit {0}
-FitDist Q ts p dn.TheVariants.No = Unit {0}
-FitDist Q ts p (dn.TheVariants.And i j) = Q i × Q j
-FitDist Q ts p (dn.TheVariants.Not i) = Q i
-FitDist Q ts p (dn.TheVariants.Sum t r) = FitSum Q ts p r
-
+-- the same of a node of either sort: t and a are the places of its terms and alternatives
 abbrev pub Fit : (ℕ → Type 0) → List Term → List ℕ → ℕ → ℕ → Node → Type 0
-Fit Q ts alts t a (State x) = FitState Q alts a x
-Fit Q ts alts t a (Dist x) = FitDist Q ts t x
+Fit Q ts alts t a (State sn.TheVariants.Yes) = Unit {0}
+Fit Q ts alts t a (State sn.TheVariants.No) = Unit {0}
+Fit Q ts alts t a (State (sn.TheVariants.And i j)) = Q i × Q j
+Fit Q ts alts t a (State (sn.TheVariants.Not i)) = Q i
+Fit Q ts alts t a (State (sn.TheVariants.Step x mv h)) = FitStep Q alts a mv h
+Fit Q ts alts t a (Dist dn.TheVariants.Yes) = Unit {0}
+Fit Q ts alts t a (Dist dn.TheVariants.No) = Unit {0}
+Fit Q ts alts t a (Dist (dn.TheVariants.And i j)) = Q i × Q j
+Fit Q ts alts t a (Dist (dn.TheVariants.Not i)) = Q i
+Fit Q ts alts t a (Dist (dn.TheVariants.Sum x r)) = FitSum Q ts t r
 
 -- the list with these from the place p on
 abbrev pub put : {X : Type 0} → ℕ → List X → List X → List X

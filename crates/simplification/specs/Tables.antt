@@ -1,5 +1,5 @@
 -- What simplifying a formula in its own tables answers, and what it leaves there.
-use Rattle.std.specs.Prelude.{◌≡◌, ℕ, ◌-◌, cond, not, List, [], ◌++◌, length, drop, replicate, Ok, Err, Result, nat_lt}
+use Rattle.std.specs.Prelude.{ℕ, ◌-◌, cond, not, List, [], ◌++◌, length, drop, replicate, Ok, Err, Result, nat_lt}
 use Rattle.formulas.specs.declared.node.Node.{Node}
 use Rattle.formulas.specs.declared.node.Node.TheVariants.{State}
 use Rattle.formulas.specs.declared.node.StateNode as sn

@@ -1,17 +1,17 @@
 // The third pass over the tables: the nodes that are ticked move to the front, with their terms and alternatives.
 ghost use Rattle.std.specs.Prelude.{◌≡◌, ℕ, ◌+◌, ◌^◌, ◌<◌, ◌≤◌, true, length, ◌≢◌, slice_index, slice_index_or};
 ghost use Rattle.std.specs.List.{AllByRecursion};
-ghost use Rattle.formulas.specs.Lines.{step, sum, entries, state_line, dist_line, line};
+ghost use Rattle.formulas.specs.Lines.{step, sum, entries, line};
 ghost use Rattle.formulas.specs.Layout.{fills};
 ghost use Rattle.formulas.specs.Tables.{SameLoans, held, laid};
 ghost use Rattle.formulas.specs.WellFormed.{line_at};
 ghost use Rattle.simplification.specs.Simplify.{parts, renumber, rank};
 ghost use Rattle.simplification.specs.Tables.{blank_node};
 ghost use Rattle.simplification.specs.Packed.{all_lines, Packed};
-ghost use Rattle.simplification.specs.Moving.{FitStep, FitSum, FitState, FitDist, Fit, StateAt, DistAt, LaidAt};
+ghost use Rattle.simplification.specs.Moving.{FitStep, FitSum, Fit, StateAt, DistAt, LaidAt};
 ghost use Rattle.simplification.specs.Compacting.{new_number, is_ticked, KeptAt, GoneAt, compacted};
 
-use crate::placed::{Ends, Placed};
+use crate::placed::{Ends, Placed, Step};
 use crate::reach::TICK;
 use crate::runs::move_run;
 use formulas::node::{DistNode, Fills, Node, Run, StateNode, Term};
@@ -19,53 +19,33 @@ use formulas::tables::TablesMut;
 
 // Moves the entries of a step.
 fn move_step(
-    action: u32,
-    moves: Run,
-    heres: Run,
+    of: Step,
     start: u32,
     alternatives: &mut [u32],
     numbers: &[u32],
 ) -> Placed<StateNode, u32>
-    requires { FitStep (λ d. d < length numbers.now) alternatives.old start moves heres }
-    ensures { StateAt (renumber (new_number numbers.now) (step action (entries alternatives.old moves) (entries alternatives.old heres))) start alternatives.old result.node result.end alternatives.new }
+    requires { FitStep (λ d. d < length numbers.now) alternatives.old start of.moves of.heres }
+    ensures { StateAt (renumber (new_number numbers.now) (step of.action (entries alternatives.old of.moves) (entries alternatives.old of.heres))) start alternatives.old result.node result.end alternatives.new }
 {
-    let middle = move_run(alternatives, moves, start, |d| Some(numbers[d as usize]));
-    let end = move_run(alternatives, heres, middle, |d| Some(numbers[d as usize]));
+    let middle = move_run(alternatives, of.moves, start, |d| Some(numbers[d as usize]));
+    let end = move_run(
+        alternatives,
+        of.heres,
+        middle,
+        |d| Some(numbers[d as usize]),
+    );
     let node = StateNode::Step {
-        action,
+        action: of.action,
         moves: Run {
             first: start,
-            ..moves
+            ..of.moves
         },
         heres: Run {
             first: middle,
-            ..heres
+            ..of.heres
         },
     };
     Placed { node, end }
-}
-
-// Moves the entries of a node of states, and renumbers its parts.
-fn move_state(
-    node: StateNode,
-    start: u32,
-    alternatives: &mut [u32],
-    numbers: &[u32],
-) -> Placed<StateNode, u32>
-    requires { FitState (λ d. d < length numbers.now) alternatives.old start node }
-    ensures { StateAt (renumber (new_number numbers.now) (state_line alternatives.old node)) start alternatives.old result.node result.end alternatives.new }
-{
-    let node = match node {
-        StateNode::Yes | StateNode::No => node,
-        StateNode::And(a, b) => StateNode::And(numbers[a as usize], numbers[b as usize]),
-        StateNode::Not(a) => StateNode::Not(numbers[a as usize]),
-        StateNode::Step {
-            action,
-            moves,
-            heres,
-        } => return move_step(action, moves, heres, start, alternatives, numbers),
-    };
-    Placed { node, end: start }
 }
 
 // Moves the terms of a sum.
@@ -95,29 +75,7 @@ fn move_sum(
     Placed { node, end }
 }
 
-// The same on distributions: each sort's nodes are an enum of their own.
-fn move_dist(
-    node: DistNode,
-    start: u32,
-    terms: &mut [Term],
-    numbers: &[u32],
-) -> Placed<DistNode, u32>
-    requires { FitDist (λ d. d < length numbers.now) terms.old start node }
-    ensures { DistAt (renumber (new_number numbers.now) (dist_line terms.old node)) start terms.old result.node result.end terms.new }
-{
-    let node = match node {
-        DistNode::Yes | DistNode::No => node,
-        DistNode::And(a, b) => DistNode::And(numbers[a as usize], numbers[b as usize]),
-        DistNode::Not(a) => DistNode::Not(numbers[a as usize]),
-        DistNode::Sum {
-            threshold,
-            terms: run,
-        } => return move_sum(threshold, run, start, terms, numbers),
-    };
-    Placed { node, end: start }
-}
-
-// The same for a node of either sort.
+// Moves the entries of a node, and renumbers its parts.
 fn move_node(
     node: Node,
     start: Ends,
@@ -128,28 +86,45 @@ fn move_node(
     requires { Fit (λ d. d < length numbers.now) terms.old alternatives.old start.term start.alternative node }
     ensures { LaidAt (renumber (new_number numbers.now) (line terms.old alternatives.old node)) start.term start.alternative terms.old alternatives.old result.node result.end.term result.end.alternative terms.new alternatives.new }
 {
-    match node {
-        Node::State(s) => {
-            let moved = move_state(s, start.alternative, alternatives, numbers);
-            Placed {
-                node: Node::State(moved.node),
-                end: Ends {
-                    alternative: moved.end,
-                    ..start
-                },
-            }
+    let mut end = start;
+    let node = match node {
+        Node::State(StateNode::And(a, b)) => {
+            Node::State(StateNode::And(numbers[a as usize], numbers[b as usize]))
         }
-        Node::Dist(d) => {
-            let moved = move_dist(d, start.term, terms, numbers);
-            Placed {
-                node: Node::Dist(moved.node),
-                end: Ends {
-                    term: moved.end,
-                    ..start
-                },
-            }
+        Node::State(StateNode::Not(a)) => Node::State(StateNode::Not(numbers[a as usize])),
+        Node::State(
+            StateNode::Step {
+                action,
+                moves,
+                heres,
+            },
+        ) => {
+            let step = Step {
+                action,
+                moves,
+                heres,
+            };
+            let moved = move_step(step, start.alternative, alternatives, numbers);
+            end.alternative = moved.end;
+            Node::State(moved.node)
         }
-    }
+        Node::Dist(DistNode::And(a, b)) => {
+            Node::Dist(DistNode::And(numbers[a as usize], numbers[b as usize]))
+        }
+        Node::Dist(DistNode::Not(a)) => Node::Dist(DistNode::Not(numbers[a as usize])),
+        Node::Dist(
+            DistNode::Sum {
+                threshold,
+                terms: run,
+            },
+        ) => {
+            let moved = move_sum(threshold, run, start.term, terms, numbers);
+            end.term = moved.end;
+            Node::Dist(moved.node)
+        }
+        _ => node,
+    };
+    Placed { node, end }
 }
 
 // Moves node `i` to the end of what is used, if it is ticked, and notes its new number.

@@ -1,4 +1,13 @@
 // Where nodes and their entries come to stand.
+use formulas::node::Run;
+
+// A step: its action, and the runs of its alternatives.
+#[derive(Clone, Copy)]
+pub(crate) struct Step {
+    pub action: u32,
+    pub moves: Run,
+    pub heres: Run,
+}
 
 // How far entries go in the tables of terms and alternatives.
 #[derive(Clone, Copy)]

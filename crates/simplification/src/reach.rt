@@ -1,11 +1,11 @@
 // The second pass over the tables: what the root reaches is ticked.
 ghost use Rattle.std.specs.Prelude.{◌≡◌, ℕ, ◌<◌, [], ◌∷◌, ◌++◌, map, length, slice_index};
 ghost use Rattle.std.specs.List.{AllByRecursion};
-ghost use Rattle.formulas.specs.Lines.{entries, state_line, dist_line, line};
+ghost use Rattle.formulas.specs.Lines.{entries, line};
 ghost use Rattle.formulas.specs.Tables.{contents};
 ghost use Rattle.simplification.specs.Simplify.{parts, reached};
 ghost use Rattle.simplification.specs.Packed.{all_lines, Packed};
-ghost use Rattle.simplification.specs.Moving.{FitStep, FitSum, FitState, FitDist, Fit};
+ghost use Rattle.simplification.specs.Moving.{FitStep, FitSum, Fit};
 ghost use Rattle.simplification.specs.Reaching.{ticked, Ticks};
 
 use crate::entry::Entry;
@@ -43,45 +43,20 @@ fn tick_sum(run: Run, terms: &[Term], ticks: &mut [u32])
 }
 
 // Ticks the parts of a node.
-fn tick_state(node: StateNode, alternatives: &[u32], ticks: &mut [u32])
-    requires { FitState (λ d. d < length ticks.old) alternatives.now 0 node }
-    ensures { ticks.new ≡ ticked ticks.old (parts (state_line alternatives.now node)) }
-{
-    match node {
-        StateNode::Yes | StateNode::No => {}
-        StateNode::And(a, b) => {
-            ticks[a as usize] = TICK;
-            ticks[b as usize] = TICK;
-        }
-        StateNode::Not(a) => ticks[a as usize] = TICK,
-        StateNode::Step { moves, heres, .. } => tick_step(moves, heres, alternatives, ticks),
-    }
-}
-
-// The same on distributions: each sort's nodes are an enum of their own.
-fn tick_dist(node: DistNode, terms: &[Term], ticks: &mut [u32])
-    requires { FitDist (λ d. d < length ticks.old) terms.now 0 node }
-    ensures { ticks.new ≡ ticked ticks.old (parts (dist_line terms.now node)) }
-{
-    match node {
-        DistNode::Yes | DistNode::No => {}
-        DistNode::And(a, b) => {
-            ticks[a as usize] = TICK;
-            ticks[b as usize] = TICK;
-        }
-        DistNode::Not(a) => ticks[a as usize] = TICK,
-        DistNode::Sum { terms: run, .. } => tick_sum(run, terms, ticks),
-    }
-}
-
-// The same for a node of either sort.
 fn tick_node(node: Node, tables: Tables, ticks: &mut [u32])
     requires { Fit (λ d. d < length ticks.old) tables.terms.now tables.alternatives.now 0 0 node }
     ensures { ticks.new ≡ ticked ticks.old (parts (line tables.entry.terms.now tables.entry.alternatives.now node)) }
 {
     match node {
-        Node::State(s) => tick_state(s, tables.alternatives, ticks),
-        Node::Dist(d) => tick_dist(d, tables.terms, ticks),
+        Node::State(StateNode::And(a, b)) | Node::Dist(DistNode::And(a, b)) => {
+            tick_all(&[a, b], ticks)
+        }
+        Node::State(StateNode::Not(a)) | Node::Dist(DistNode::Not(a)) => tick_all(&[a], ticks),
+        Node::State(StateNode::Step { moves, heres, .. }) => {
+            tick_step(moves, heres, tables.alternatives, ticks)
+        }
+        Node::Dist(DistNode::Sum { terms, .. }) => tick_sum(terms, tables.terms, ticks),
+        _ => {}
     }
 }
 

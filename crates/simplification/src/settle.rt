@@ -1,21 +1,21 @@
 // The first pass over the tables: yes and no are worked into the nodes that use them.
 ghost use Rattle.std.specs.Prelude.{◌≡◌, ◌-◌, ◌^◌, ◌<◌, ◌≤◌, not, Some, None, [], length, if◌then◌else◌, slice_index_or};
 ghost use Rattle.std.specs.List.{AllByRecursion};
-ghost use Rattle.formulas.specs.Lines.{step, sum, entries, state_line, dist_line, line};
+ghost use Rattle.formulas.specs.Lines.{step, sum, entries, line};
 ghost use Rattle.formulas.specs.Tables.{slots, SameLoans, held, over, laid};
 ghost use Rattle.simplification.specs.Simplify.{tone, tone_of, is_yes, is_no, is_neither, retarget, both_outcome, non_line, became, coefficients, has_yes, terms_left, yes_part};
 ghost use Rattle.simplification.specs.Tables.{blank_node};
 ghost use Rattle.simplification.specs.Packed.{all_lines, Packed};
-ghost use Rattle.simplification.specs.Moving.{FitStep, FitSum, FitState, FitDist, Fit, Bare, StateAt, DistAt, LaidAt};
+ghost use Rattle.simplification.specs.Moving.{FitStep, FitSum, Fit, Bare, StateAt, DistAt, LaidAt};
 ghost use Rattle.simplification.specs.Settling.{shade, glance_of, both_left, leaves, Led, LedBy, SettledAt, left_lines, left_numbers};
 
-use crate::placed::{Ends, Placed};
+use crate::placed::{Ends, Placed, Step};
 use crate::plain::Plain;
 use crate::runs::move_run;
 use formulas::node::{DistNode, Node, Run, StateNode, Term};
 use formulas::tables::TablesMut;
 
-// What a node is seen to be.
+// What a node is seen to be. No Option<bool>: the specs have a word for each of the three, and yes is no more present than no.
 #[derive(Clone, Copy, PartialEq)]
 pub(crate) enum Seen {
     Yes,
@@ -33,9 +33,10 @@ fn see(node: Node) -> Seen
     }
 }
 
-// The nodes before one that is settled. The map leads from each to the node that stands for it.
+// The number of a node that is settled, and the nodes before it. The map leads from each to the node that stands for it.
 #[derive(Clone, Copy)]
 pub(crate) struct Before<'a> {
+    pub number: u32,
     pub nodes: &'a [Node],
     pub map: &'a [u32],
 }
@@ -127,9 +128,9 @@ fn weigh(terms: &[Term], threshold: u64, before: Before) -> Rest
 
 // What becomes of a node: the number that its users take, and what stands at its place.
 #[derive(Clone, Copy)]
-pub(crate) struct Turn<N, E> {
+pub(crate) struct Turn {
     pub to: u32,
-    pub placed: Placed<N, E>,
+    pub placed: Placed<Node, Ends>,
 }
 
 // What is left of a not, by what its part is.
@@ -145,41 +146,49 @@ fn settle_not<N: Plain>(a: u32, before: Before) -> N
 }
 
 // An and with one yes part stands for the other part: its users take the number of that, and nobody reads its own place.
-fn settle_and<N: Plain>(i: u32, a: u32, b: u32, before: Before) -> (u32, N)
+fn settle_and<N: Plain>(a: u32, b: u32, before: Before) -> (u32, N)
     requires { LedBy before a × LedBy before b }
-    ensures to { result.0 ≡ (both_outcome i N.sort (tone_of (glance_of before.entry) a) (tone_of (glance_of before.entry) b) (glance_of before.entry a) (glance_of before.entry b)).to }
+    ensures to { result.0 ≡ (both_outcome before.entry.number N.sort (tone_of (glance_of before.entry) a) (tone_of (glance_of before.entry) b) (glance_of before.entry a) (glance_of before.entry b)).to }
     ensures left { Bare (N.node result.1) (both_left N.sort (tone_of (glance_of before.entry) a) (tone_of (glance_of before.entry) b) (glance_of before.entry a).to (glance_of before.entry b).to) }
 {
     let (left, right) = (before.map[a as usize], before.map[b as usize]);
     match (before.see(a), before.see(b)) {
-        (Seen::No, _) | (_, Seen::No) => (i, N::constant(false)),
-        (Seen::Yes, Seen::Yes) => (i, N::constant(true)),
+        (Seen::No, _) | (_, Seen::No) => (before.number, N::constant(false)),
+        (Seen::Yes, Seen::Yes) => (before.number, N::constant(true)),
         (Seen::Yes, Seen::Open) => (right, N::constant(true)),
         (Seen::Open, Seen::Yes) => (left, N::constant(true)),
-        (Seen::Open, Seen::Open) => (i, N::and(left, right)),
+        (Seen::Open, Seen::Open) => (before.number, N::and(left, right)),
     }
 }
 
 // A step is yes with a yes for here, and no with nothing left. A yes for moves decides nothing: there may be no move.
 fn settle_step(
-    action: u32,
-    moves: Run,
-    heres: Run,
+    of: Step,
     start: u32,
     before: Before,
     alternatives: &mut [u32],
 ) -> Placed<StateNode, u32>
-    requires { FitStep (LedBy before) alternatives.old start moves heres }
-    ensures { StateAt (leaves (glance_of before.entry) (step action (entries alternatives.old moves) (entries alternatives.old heres))) start alternatives.old result.node result.end alternatives.new }
+    requires { FitStep (LedBy before) alternatives.old start of.moves of.heres }
+    ensures { StateAt (leaves (glance_of before.entry) (step of.action (entries alternatives.old of.moves) (entries alternatives.old of.heres))) start alternatives.old result.node result.end alternatives.new }
 {
-    if before.some_yes(heres.entries(alternatives)) {
+    if before.some_yes(of.heres.entries(alternatives)) {
         return Placed {
             node: StateNode::Yes,
             end: start,
         };
     }
-    let middle = move_run(alternatives, moves, start, |d| before.alternative_left(d));
-    let end = move_run(alternatives, heres, middle, |d| before.alternative_left(d));
+    let middle = move_run(
+        alternatives,
+        of.moves,
+        start,
+        |d| before.alternative_left(d),
+    );
+    let end = move_run(
+        alternatives,
+        of.heres,
+        middle,
+        |d| before.alternative_left(d),
+    );
     if end == start {
         return Placed {
             node: StateNode::No,
@@ -187,7 +196,7 @@ fn settle_step(
         };
     }
     let node = StateNode::Step {
-        action,
+        action: of.action,
         moves: Run {
             first: start,
             count: middle - start,
@@ -235,112 +244,66 @@ fn settle_sum(
     Placed { node, end }
 }
 
-// What becomes of a node of states.
-fn settle_state(
-    i: u32,
-    node: StateNode,
-    start: u32,
-    before: Before,
-    alternatives: &mut [u32],
-) -> Turn<StateNode, u32>
-    requires { FitState (LedBy before) alternatives.old start node }
-    ensures to { result.to ≡ (became i (glance_of before.entry) (state_line alternatives.old node)).to }
-    ensures laid { StateAt (leaves (glance_of before.entry) (state_line alternatives.old node)) start alternatives.old result.placed.node result.placed.end alternatives.new }
-{
-    let (to, node) = match node {
-        StateNode::Yes | StateNode::No => (i, node),
-        StateNode::Not(a) => (i, settle_not(a, before)),
-        StateNode::And(a, b) => settle_and(i, a, b, before),
-        StateNode::Step {
-            action,
-            moves,
-            heres,
-        } => {
-            let placed = settle_step(action, moves, heres, start, before, alternatives);
-            return Turn { to: i, placed };
-        }
-    };
-    Turn {
-        to,
-        placed: Placed { node, end: start },
-    }
-}
-
-// The same on distributions: each sort's nodes are an enum of their own.
-fn settle_dist(
-    i: u32,
-    node: DistNode,
-    start: u32,
-    before: Before,
-    terms: &mut [Term],
-) -> Turn<DistNode, u32>
-    requires { FitDist (LedBy before) terms.old start node }
-    ensures to { result.to ≡ (became i (glance_of before.entry) (dist_line terms.old node)).to }
-    ensures laid { DistAt (leaves (glance_of before.entry) (dist_line terms.old node)) start terms.old result.placed.node result.placed.end terms.new }
-{
-    let (to, node) = match node {
-        DistNode::Yes | DistNode::No => (i, node),
-        DistNode::Not(a) => (i, settle_not(a, before)),
-        DistNode::And(a, b) => settle_and(i, a, b, before),
-        DistNode::Sum {
-            threshold,
-            terms: run,
-        } => {
-            let placed = settle_sum(threshold, run, start, before, terms);
-            return Turn { to: i, placed };
-        }
-    };
-    Turn {
-        to,
-        placed: Placed { node, end: start },
-    }
-}
-
-// The same for a node of either sort.
+// What becomes of a node.
 fn settle_node(
-    i: u32,
     node: Node,
     start: Ends,
     before: Before,
     terms: &mut [Term],
     alternatives: &mut [u32],
-) -> Turn<Node, Ends>
+) -> Turn
     requires { Fit (LedBy before) terms.old alternatives.old start.term start.alternative node }
-    ensures to { result.to ≡ (became i (glance_of before.entry) (line terms.old alternatives.old node)).to }
+    ensures to { result.to ≡ (became before.entry.number (glance_of before.entry) (line terms.old alternatives.old node)).to }
     ensures laid { LaidAt (leaves (glance_of before.entry) (line terms.old alternatives.old node)) start.term start.alternative terms.old alternatives.old result.placed.node result.placed.end.term result.placed.end.alternative terms.new alternatives.new }
 {
-    match node {
-        Node::State(s) => {
-            let Turn { to, placed } = settle_state(i, s, start.alternative, before, alternatives);
-            Turn {
-                to,
-                placed: Placed {
-                    node: Node::State(placed.node),
-                    end: Ends {
-                        alternative: placed.end,
-                        ..start
-                    },
-                },
-            }
+    let mut end = start;
+    let (to, node) = match node {
+        Node::State(StateNode::Not(a)) => (before.number, Node::State(settle_not(a, before))),
+        Node::State(StateNode::And(a, b)) => {
+            let (to, left) = settle_and(a, b, before);
+            (to, Node::State(left))
         }
-        Node::Dist(d) => {
-            let Turn { to, placed } = settle_dist(i, d, start.term, before, terms);
-            Turn {
-                to,
-                placed: Placed {
-                    node: Node::Dist(placed.node),
-                    end: Ends {
-                        term: placed.end,
-                        ..start
-                    },
-                },
-            }
+        Node::State(
+            StateNode::Step {
+                action,
+                moves,
+                heres,
+            },
+        ) => {
+            let step = Step {
+                action,
+                moves,
+                heres,
+            };
+            let placed = settle_step(step, start.alternative, before, alternatives);
+            end.alternative = placed.end;
+            (before.number, Node::State(placed.node))
         }
+        Node::Dist(DistNode::Not(a)) => (before.number, Node::Dist(settle_not(a, before))),
+        Node::Dist(DistNode::And(a, b)) => {
+            let (to, left) = settle_and(a, b, before);
+            (to, Node::Dist(left))
+        }
+        Node::Dist(
+            DistNode::Sum {
+                threshold,
+                terms: run,
+            },
+        ) => {
+            let placed = settle_sum(threshold, run, start.term, before, terms);
+            end.term = placed.end;
+            (before.number, Node::Dist(placed.node))
+        }
+        _ => (before.number, node),
+    };
+    Turn {
+        to,
+        placed: Placed { node, end },
     }
 }
 
 // Settles node `i`: what is left of its entries goes to where those of the nodes before it end.
-// It takes slices: of one struct, the nodes could not be read while the entries change.
+// It takes slices: tried with one struct, and the borrow checker covers no field that is read while another is lent.
 fn settle_at(
     i: usize,
     ends: Ends,
@@ -355,8 +318,12 @@ fn settle_at(
     requires fit { Fit (Led nodes.old map.old) terms.old alternatives.old ends.term ends.alternative (slice_index_or nodes.old i blank_node) }
     ensures { SettledAt i ends.term ends.alternative (slots nodes.old terms.old alternatives.old) map.old result.term result.alternative (slots nodes.new terms.new alternatives.new) map.new }
 {
-    let before = Before { nodes, map };
-    let Turn { to, placed } = settle_node(i as u32, nodes[i], ends, before, terms, alternatives);
+    let before = Before {
+        number: i as u32,
+        nodes,
+        map,
+    };
+    let Turn { to, placed } = settle_node(nodes[i], ends, before, terms, alternatives);
     map[i] = to;
     nodes[i] = placed.node;
     placed.end

@@ -1,4 +1,4 @@
-use Rattle.std.proofs.Common.{rules, refl, sym, ap, ◌∙◌, arith}
+use Rattle.std.proofs.Common.{rules, sym, ap, ◌∙◌, arith}
 use Rattle.formulas.specs.Tables.{Slots, slots, stands_in, held}
 use Rattle.simplification.specs.Tables.{desk}
 use Rattle.simplification.proofs.Fronts.{ready, no_more, settles_in, accepted}

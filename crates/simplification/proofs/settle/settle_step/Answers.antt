@@ -14,23 +14,23 @@ move_run-end-requires c =
     let E = glance_of c.args.before in
     let xs = c.args.alternatives.now in
     let moved = moved-is _ (λ d. not (is_no (tone_of E d))) (λ d. (E d).to) _ _ _ _ _ c.move_run-middle.ensures
-    (All-weaker (LedBy c.args.before) _ (λ d h o r. search rules) (entries xs c.args.moves) c.requires.moves) in
-    let short = left-short E xs c.args.moves (omega (arith, c.requires.next, c.requires.within)) in
-    let free = gap (alternatives_left E) xs c.move_run-middle.new.table c.args.moves c.args.heres c.args.start short c.requires.past c.requires.next c.requires.within moved.1 in
-    let same = heres-same (alternatives_left E) xs c.move_run-middle.new.table c.args.moves c.args.heres c.args.start short c.requires.past c.requires.next c.requires.within moved.1 in
+    (All-weaker (LedBy c.args.before) _ (λ d h o r. search rules) (entries xs c.args.of.moves) c.requires.moves) in
+    let short = left-short E xs c.args.of.moves (omega (arith, c.requires.next, c.requires.within)) in
+    let free = gap (alternatives_left E) xs c.move_run-middle.new.table c.args.of.moves c.args.of.heres c.args.start short c.requires.past c.requires.next c.requires.within moved.1 in
+    let same = heres-same (alternatives_left E) xs c.move_run-middle.new.table c.args.of.moves c.args.of.heres c.args.start short c.requires.past c.requires.next c.requires.within moved.1 in
     record {
       past = omega (arith, free, moved.0);
       within = omega (arith, c.requires.within, c.move_run-middle.auto.table);
       small = omega (arith, c.requires.small, c.move_run-middle.auto.table);
-      callable = All-weaker (LedBy c.args.before) _ (λ d h. search rules) (entries c.move_run-middle.new.table c.args.heres) (subst (AllByRecursion (LedBy c.args.before)) (sym same) c.requires.heres);
+      callable = All-weaker (LedBy c.args.before) _ (λ d h. search rules) (entries c.move_run-middle.new.table c.args.of.heres) (subst (AllByRecursion (LedBy c.args.before)) (sym same) c.requires.heres);
     }
 
 pub returns : goal.returns
 returns c =
     let E = glance_of c.args.before in
     let xs = c.args.alternatives.now in
-    let mv = c.args.moves in
-    let h = c.args.heres in
+    let mv = c.args.of.moves in
+    let h = c.args.of.heres in
     let ms = alternatives_left E (entries xs mv) in
     let hs = alternatives_left E (entries xs h) in
     let first = moved-is _ (λ d. not (is_no (tone_of E d))) (λ d. (E d).to) _ _ _ _ _ c.move_run-middle.ensures
@@ -42,7 +42,7 @@ returns c =
     let all = both-moved (alternatives_left E) xs c.move_run-middle.new.table mv h c.args.start short c.requires.past c.requires.next c.requires.within first.1
     c.move_run-end.new.table c.move_run-middle.result first.0 then.1 in
     let none = ap (has_yes E) (sym c.entries.ensures) ∙ (sym c.some_yes.ensures ∙ c.if-some_yes.false) in
-    let step = stepped c.args.action c.args.start c.move_run-middle.result c.move_run-end.result ms hs (has_yes E (entries xs h))
+    let step = stepped c.args.of.action c.args.start c.move_run-middle.result c.move_run-end.result ms hs (has_yes E (entries xs h))
     first.0 (then.0 ∙ ap (λ ds. c.move_run-middle.result + length (alternatives_left E ds)) same) c.if-end-start.false none in
     record { is = step.is; end = step.end; alternatives = all ∙ ap (λ ds. put c.args.start ds xs) step.all }
 
@@ -50,8 +50,8 @@ pub returns-then-end-start : goal.returns-then-end-start
 returns-then-end-start c =
     let E = glance_of c.args.before in
     let xs = c.args.alternatives.now in
-    let mv = c.args.moves in
-    let h = c.args.heres in
+    let mv = c.args.of.moves in
+    let h = c.args.of.heres in
     let ms = alternatives_left E (entries xs mv) in
     let hs = alternatives_left E (entries xs h) in
     let first = moved-is _ (λ d. not (is_no (tone_of E d))) (λ d. (E d).to) _ _ _ _ _ c.move_run-middle.ensures
@@ -63,6 +63,6 @@ returns-then-end-start c =
     let all = both-moved (alternatives_left E) xs c.move_run-middle.new.table mv h c.args.start short c.requires.past c.requires.next c.requires.within first.1
     c.move_run-end.new.table c.move_run-middle.result first.0 then.1 in
     let none = ap (has_yes E) (sym c.entries.ensures) ∙ (sym c.some_yes.ensures ∙ c.if-some_yes.false) in
-    let step = stepped-none c.args.action c.args.start c.move_run-middle.result c.move_run-end.result ms hs (has_yes E (entries xs h))
+    let step = stepped-none c.args.of.action c.args.start c.move_run-middle.result c.move_run-end.result ms hs (has_yes E (entries xs h))
     first.0 (then.0 ∙ ap (λ ds. c.move_run-middle.result + length (alternatives_left E ds)) same) c.if-end-start.true none in
     record { is = step.is; end = step.end; alternatives = all ∙ ap (λ ds. put c.args.start ds xs) step.all }
