@@ -39,6 +39,7 @@ pub(crate) struct Site<'a, 'b, S: System> {
     ghost placed: { Placed (S.meaning board.system.now) spot } by { Placed-prop (S.meaning board.system.now) spot },
 }
 
+// As for a board.
 impl<S: System> Clone for Site<'_, '_, S> {
     ghost is_clone = { λ x y. y ≡ x };
 

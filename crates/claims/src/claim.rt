@@ -7,7 +7,7 @@ use formulas::node::Fills;
 use formulas::tables::Standing;
 use systems::actions::ActionSet;
 
-// It is moved and never copied: a call that takes it uses it up.
+// It is moved and never copied: a call that takes it uses it up. Its fields are apart, as a draft's, since clauses name them.
 #[derive(Drop)]
 pub struct Claim {
     fills: Fills,

@@ -14,29 +14,6 @@ use formulas::tables::TablesMut;
 use quotient::divide::divide;
 use systems::system::System;
 
-// The answer of remove, and what it leaves in the second tables.
-fn answer<S: System>(
-    claim: Claim,
-    tables: Tables,
-    system: &S,
-    second: &mut TablesMut,
-) -> Result<(Claim, Fills), (Claim, Refusal)>
-    ensures lent { SameLoans second.old second.new }
-    ensures outcome { Removes (S.meaning system.now) claim (contents tables.entry) (held second.old) result (held second.new) }
-{
-    let standing = claim.standing();
-    let mass = claim.mass();
-    let shared = claim.shared();
-    // Both arms are written out, since the claim goes back with an error.
-    match divide(standing, mass, shared, tables, system, second) {
-        Ok(left) => {
-            let removed = mass * system.mass();
-            Ok((Claim::new(left, removed, shared), left.fills))
-        }
-        Err(why) => Err((claim, why)),
-    }
-}
-
 // Removes a system from a claim: the answer is the claim that is left, in the second tables, and its fills.
 // A refused claim is given back, and the second tables are as they were.
 pub fn remove<S: System>(
@@ -50,5 +27,15 @@ pub fn remove<S: System>(
     ensures book { (k : Book) → Stands k (stage claim (contents tables.entry)) → Stands (fed k (entry (removing (S.meaning system.now)) (is_err result))) (onward (contents tables.entry) result (held second.new)) }
 {
     books_stand();
-    answer(claim, tables, system, second)
+    let standing = claim.standing();
+    let mass = claim.mass();
+    let shared = claim.shared();
+    // Both arms are written out, since the claim goes back with an error.
+    match divide(standing, mass, shared, tables, system, second) {
+        Ok(left) => {
+            let removed = mass * system.mass();
+            Ok((Claim::new(left, removed, shared), left.fills))
+        }
+        Err(why) => Err((claim, why)),
+    }
 }

@@ -12,7 +12,7 @@ use crate::board::Site;
 use formulas::node::{DistNode, Node, Run};
 use systems::system::System;
 
-// In a row, a node whose truth is wanted. The row is a table of bytes that the caller lends.
+// In a row, a node whose truth is wanted. A byte and no enum, since the caller lends the row as a table of bytes.
 const MARK: u8 = 2;
 
 // Places of a row, from `low` up to before `high`.
@@ -31,6 +31,7 @@ fn mark(wanted: &[u32], upto: usize, row: &mut [u8]) -> Span
     ensures ordered { result.low ≤ result.high }
     ensures top { result.high ≤ upto }
 {
+    // A loop and no chain: each step writes to the row and moves both ends.
     let mut low = upto;
     let mut high: usize = 0;
     for d in wanted {

@@ -13,18 +13,6 @@ use formulas::node::Fills;
 use formulas::tables::TablesMut;
 use simplification::in_place::simplify_in_place;
 
-// The answer of simplify, and what it leaves.
-fn answer(claim: &mut Claim, tables: &mut TablesMut, map: &mut [u32]) -> Result<Fills, Refusal>
-    ensures lent { SameLoans tables.old tables.new }
-    ensures outcome { Simplifies claim.old (desk (held tables.old) map.old) result claim.new (desk (held tables.new) map.new) }
-    ensures settled { LeftSettled result claim.new (held tables.new) }
-{
-    let standing = claim.standing();
-    let new = simplify_in_place(standing, claim.mass(), tables, map)?;
-    claim.take_up(new);
-    Ok(new.fills)
-}
-
 // Simplifies a claim's formula in its own tables, and says how much of each table it uses then.
 // The map needs an entry for each node, and is cleared. A refusal changes nothing.
 pub fn simplify(
@@ -38,5 +26,8 @@ pub fn simplify(
     ensures book { (k : Book) → Stands k (stage claim.old (held tables.old)) → Stands (fed k (entry simplifying (is_err result))) (stage claim.new (held tables.new)) }
 {
     books_stand();
-    answer(claim, tables, map)
+    let standing = claim.standing();
+    let new = simplify_in_place(standing, claim.mass(), tables, map)?;
+    claim.take_up(new);
+    Ok(new.fills)
 }

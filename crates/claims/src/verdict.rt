@@ -12,6 +12,7 @@ pub enum Verdict {
 }
 
 impl Verdict {
+    // Named, and no `From<bool>`: a call says of what the truth is a verdict.
     pub fn of(holds: bool) -> Verdict
         ensures { result ≡ verdict holds }
     {
@@ -19,6 +20,7 @@ impl Verdict {
     }
 }
 
+// By hand: it is no error, and no derive promises the text.
 impl fmt::Display for Verdict {
     ghost output = { λ v. Some (word v) };
 

@@ -93,7 +93,7 @@ impl ReadFault {
     }
 }
 
-// What the refusal means.
+// What the refusal means. By hand, since what `thiserror` derives promises no text.
 impl fmt::Display for ReadFault {
     ghost output = { λ f. Some (meaning f) };
 
@@ -114,6 +114,7 @@ impl fmt::Display for ReadFault {
 
 impl Error for ReadFault {}
 
+// By hand, since what `thiserror` derives promises no text.
 impl fmt::Display for Layer {
     ghost output = { λ l. Some (layer_name l) };
 

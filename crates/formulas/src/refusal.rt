@@ -26,7 +26,7 @@ impl Refusal {
     }
 }
 
-// What the refusal means.
+// What the refusal means. By hand, since what `thiserror` derives promises no text.
 impl fmt::Display for Refusal {
     ghost output = { λ r. Some (meaning r) };
 

@@ -9,6 +9,7 @@ use crate::tables::{Standing, Tables, front};
 
 const LAST_ACTION: u32 = 31;
 
+// One function for each sort, here and in a place: the specification has a word for each, and a sort as a parameter is no plainer.
 fn is_state(nodes: &[Node], i: u32) -> bool
     ensures { result ≡ is_state_node nodes.now i }
 {

@@ -62,6 +62,7 @@ pub fn target(word: &str) -> Result<Target, LineFault<'_>> {
 
 // The set of the actions that are named.
 pub fn action_set<'a>(words: &[&'a str]) -> Result<ActionSet, LineFault<'a>> {
+    // A loop with `?`, since `try_fold` is no plainer.
     let mut set = ActionSet::empty();
     for word in words {
         set = set.with(number(word)?).ok_or(LineFault::NotAnAction(word))?;

@@ -39,25 +39,18 @@ impl System for Empty {
     }
 
     fn moves(&self, state: u32, action: u32) -> u32 {
-        if self.takes_part(state, action) { 1 } else { 0 }
+        u32::from(self.takes_part(state, action))
     }
 
     fn targets(&self, state: u32, action: u32, mv: u32) -> u32 {
-        if self.takes_part(state, action) && mv == 0 {
-            1
-        } else {
-            0
-        }
+        u32::from(self.takes_part(state, action) && mv == 0)
     }
 
     fn target(&self, state: u32, action: u32, mv: u32, index: u32) -> Option<Target> {
-        if self.takes_part(state, action) && mv == 0 && index == 0 {
-            Some(Target {
-                state: 0,
-                weight: 1,
-            })
-        } else {
-            None
-        }
+        let goes = self.takes_part(state, action) && mv == 0 && index == 0;
+        goes.then_some(Target {
+            state: 0,
+            weight: 1,
+        })
     }
 }

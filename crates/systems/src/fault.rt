@@ -1,6 +1,6 @@
 // Why a system is refused.
-ghost use Rattle.std.specs.Prelude.{◌≡◌};
-ghost use Rattle.systems.specs.Faults.{number, mount_number, mount_place};
+ghost use Rattle.std.specs.Prelude.{◌≡◌, Some};
+ghost use Rattle.systems.specs.Faults.{number, meaning, mount_number, mount_place, mount_meaning};
 ghost use Rattle.systems.specs.declared.fault.MountFault.TheVariants.{NoMemory};
 
 use std::alloc::AllocError;
@@ -23,7 +23,10 @@ impl Fault {
     }
 }
 
+// What the fault means. By hand, since what `thiserror` derives promises no text.
 impl fmt::Display for Fault {
+    ghost output = { λ f. Some (meaning f) };
+
     fn fmt<W: fmt::Write>(&self, f: &mut fmt::Formatter<W>) -> fmt::Result {
         f.write_str(match self {
             Fault::Number => {
@@ -67,7 +70,10 @@ impl MountFault {
     }
 }
 
+// What the fault means. By hand, since what `thiserror` derives promises no text.
 impl fmt::Display for MountFault {
+    ghost output = { λ f. Some (mount_meaning f) };
+
     fn fmt<W: fmt::Write>(&self, f: &mut fmt::Formatter<W>) -> fmt::Result {
         f.write_str(match self {
             MountFault::Record(_) => {

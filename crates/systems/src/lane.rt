@@ -19,6 +19,7 @@ pub struct Lane {
     put: u32,
     take: u32,
     loss: u32,
+    // Four facts, since from one, that `lane_numbers` is true, the law `sound` was not found.
     ghost counted: { Between 1 60 capacity },
     ghost acts: { (put < 32) × (take < 32) },
     ghost apart: { put ≡ take → ⊥ },
@@ -81,22 +82,16 @@ impl System for Lane {
     }
 
     fn moves(&self, state: u32, action: u32) -> u32 {
-        if self.puts(state, action) || self.takes(state, action) {
-            1
-        } else {
-            0
-        }
+        u32::from(self.puts(state, action) || self.takes(state, action))
     }
 
     fn targets(&self, state: u32, action: u32, mv: u32) -> u32 {
         if mv != 0 {
             0
         } else if self.puts(state, action) {
-            if self.loss > 0 { 2 } else { 1 }
-        } else if self.takes(state, action) {
-            1
+            1 + u32::from(self.loss > 0)
         } else {
-            0
+            u32::from(self.takes(state, action))
         }
     }
 

@@ -27,6 +27,7 @@ const BLANK: Blank = Blank {
 
 const PROMISE: &[u8] = b"(dia 0 (>= (* 1000 (prob (dia 1 true))) 750))";
 
+// A loop, since `join` is of texts alone.
 fn print_bytes(rt: &HostRuntime, label: &str, bytes: &[u8]) -> io::Result<()> {
     print!(rt; "{label}")?;
     for b in bytes {
