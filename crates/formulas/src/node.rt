@@ -3,7 +3,7 @@ ghost use Rattle.std.specs.Prelude.{◌≡◌};
 ghost use Rattle.formulas.specs.Lines.{entries};
 
 // A run of consecutive entries of a table.
-#[derive(Clone, Copy)]
+#[derive(Clone, Copy, PartialEq, Debug)]
 pub struct Run {
     pub first: u32,
     pub count: u32,
@@ -21,14 +21,14 @@ impl Run {
 }
 
 // A term of a sum: how much the states that satisfy a node count.
-#[derive(Clone, Copy, Default)]
+#[derive(Clone, Copy, PartialEq, Debug, Default)]
 pub struct Term {
     pub coefficient: u64,
     pub node: u32,
 }
 
 // What is said of a state.
-#[derive(Clone, Copy)]
+#[derive(Clone, Copy, PartialEq, Debug)]
 pub enum StateNode {
     Yes,
     No,
@@ -39,7 +39,7 @@ pub enum StateNode {
 }
 
 // What is said of a move or of a point.
-#[derive(Clone, Copy)]
+#[derive(Clone, Copy, PartialEq, Debug)]
 pub enum DistNode {
     Yes,
     No,
@@ -50,14 +50,14 @@ pub enum DistNode {
 }
 
 // A node is of the state sort or of the distribution sort. Each sort has an enum of its own, so that no node has a kind of the other.
-#[derive(Clone, Copy)]
+#[derive(Clone, Copy, PartialEq, Debug)]
 pub enum Node {
     State(StateNode),
     Dist(DistNode),
 }
 
 // How many entries of each table a formula uses.
-#[derive(Clone, Copy)]
+#[derive(Clone, Copy, PartialEq, Debug)]
 pub struct Fills {
     pub nodes: u32,
     pub terms: u32,

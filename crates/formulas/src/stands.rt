@@ -2,7 +2,7 @@
 ghost use Rattle.std.specs.Prelude.{◌≡◌, ◌*◌, ◌≤◌, true, ◌&&◌, length, take, nat_le};
 ghost use Rattle.formulas.specs.Laws.{TruthLaw, CourseLaw, FormedLaw, InLaw, OfLaw, LayoutLaw, LinesLaw, HeldLaw, LaidLaw};
 ghost use Rattle.formulas.specs.Right.{AllRight};
-ghost use Rattle.formulas.specs.Stands.{is_state_node, is_dist_node, below_state, below_dist, run_ok, all_dist, term_ok, terms_ok, step_ok, sum_ok, state_ok, dist_ok, node_ok, terms_of, alternatives_of, stands, formula_in};
+ghost use Rattle.formulas.specs.Stands.{is_state_node, is_dist_node, below_state, below_dist, run_ok, all_dist, term_ok, terms_ok, step_ok, sum_ok, node_ok, terms_of, alternatives_of, stands, formula_in};
 
 use crate::node::{DistNode, Fills, Node, Run, StateNode, Term};
 use crate::tables::{Standing, Tables, front};
@@ -109,40 +109,26 @@ impl Place<'_> {
             && self.all_terms(&self.tables.terms[free..free + run.count as usize])
     }
 
-    fn state(&self, node: StateNode) -> bool
-        ensures { result ≡ state_ok self.now.tables.nodes.now self.now.tables.alternatives.now self.now.i self.now.alternatives node }
-    {
-        match node {
-            StateNode::Yes | StateNode::No => true,
-            StateNode::And(j, k) => self.below_state(j) && self.below_state(k),
-            StateNode::Not(j) => self.below_state(j),
-            StateNode::Step {
-                action,
-                moves,
-                heres,
-            } => { action <= LAST_ACTION && self.step(moves, heres) }
-        }
-    }
-
-    fn dist(&self, node: DistNode) -> bool
-        ensures { result ≡ dist_ok self.now.tables.nodes.now self.now.tables.terms.now self.now.mass self.now.i self.now.terms node }
-    {
-        match node {
-            DistNode::Yes | DistNode::No => true,
-            DistNode::And(j, k) => self.below_dist(j) && self.below_dist(k),
-            DistNode::Not(j) => self.below_dist(j),
-            DistNode::Sum { threshold, terms } => {
-                threshold as u128 <= self.limit() && self.sum(terms)
-            }
-        }
-    }
-
     fn node(&self, node: Node) -> bool
         ensures { result ≡ node_ok self.now.tables.nodes.now self.now.tables.terms.now self.now.tables.alternatives.now self.now.mass self.now.i self.now.terms self.now.alternatives node }
     {
         match node {
-            Node::State(s) => self.state(s),
-            Node::Dist(d) => self.dist(d),
+            Node::State(StateNode::Yes | StateNode::No) => true,
+            Node::State(StateNode::And(j, k)) => self.below_state(j) && self.below_state(k),
+            Node::State(StateNode::Not(j)) => self.below_state(j),
+            Node::State(
+                StateNode::Step {
+                    action,
+                    moves,
+                    heres,
+                },
+            ) => action <= LAST_ACTION && self.step(moves, heres),
+            Node::Dist(DistNode::Yes | DistNode::No) => true,
+            Node::Dist(DistNode::And(j, k)) => self.below_dist(j) && self.below_dist(k),
+            Node::Dist(DistNode::Not(j)) => self.below_dist(j),
+            Node::Dist(DistNode::Sum { threshold, terms }) => {
+                threshold as u128 <= self.limit() && self.sum(terms)
+            }
         }
     }
 }

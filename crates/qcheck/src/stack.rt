@@ -107,6 +107,7 @@ impl<R: Room> Room for More<R> {
     }
 }
 
+// As many as `MOST_PILED` allows over the lowest one.
 type FiveMore = More<More<More<More<More<Full>>>>>;
 
 // Judges on the systems of the stack over the lowest one, the first on top.

@@ -4,10 +4,9 @@ ghost use Rattle.systems.specs.Actions.{has};
 ghost use Rattle.quotient.specs.Divisions.{room_for};
 ghost use Rattle.quotient.specs.Plans.{topped, targets_on, targets_from, all_targets, step_need, steps_need, alternative_need};
 
-use crate::plan::ACTIONS;
 use formulas::node::{Node, StateNode};
 use formulas::refusal::Refusal;
-use systems::actions::ActionSet;
+use systems::actions::{ACTIONS, ActionSet};
 use systems::system::System;
 
 // The most entries that a table may use.

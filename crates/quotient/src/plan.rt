@@ -6,10 +6,9 @@ ghost use Rattle.quotient.specs.Plans.{node_width, width_before, Sampled, Firsts
 
 use formulas::node::{Node, Run};
 use formulas::tables::Tables;
-use systems::actions::ActionSet;
+use systems::actions::{ACTIONS, ActionSet};
 use systems::system::System;
 
-pub(crate) const ACTIONS: u32 = 32;
 // The number of lines is kept for every 32nd node.
 const BLOCK: usize = 32;
 

@@ -11,9 +11,10 @@ ghost use Rattle.quotient.specs.Layings.{extended, filled, SameSlots, SameTables
 ghost use Rattle.quotient.specs.Plans.{plan_nodes, place_in, AllInside, Fit, AllFit, LightTerm, LightTarget, plan_quotient, moved, Plain, node_width, node_line, node_lines, term_at, sum_at, step_node, sum_node};
 ghost use Rattle.quotient.specs.Quotient.{moves_of};
 
-use crate::plan::{ACTIONS, Division, width};
+use crate::plan::{Division, width};
 use formulas::append::AppendList;
 use formulas::node::{DistNode, Node, Run, StateNode, Term};
+use systems::actions::ACTIONS;
 use systems::system::{System, Target};
 
 // The greatest breadth of a system that can be removed: no move has more targets.

@@ -12,7 +12,7 @@ use crate::entry::Entry;
 use formulas::node::{DistNode, Node, Run, StateNode, Term};
 use formulas::tables::Tables;
 
-// In the map, a node that is reached.
+// In the map, a node that is reached: a number and no enum, since the caller lends the map, and it has new numbers later.
 pub(crate) const TICK: u32 = 1;
 
 // Ticks the nodes that are wanted.

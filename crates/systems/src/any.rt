@@ -16,7 +16,7 @@ pub enum AnySystem {
     Empty(Empty),
 }
 
-// Asks the system, whichever kind it is.
+// Asks the system, whichever kind it is. A macro and no method: none may hand out a `dyn`, and the kinds share no other type.
 macro_rules! ask {
     ($any:expr, $system:ident => $question:expr) => {
         match $any {

@@ -18,20 +18,12 @@ fn untouched(tables: &Slots) -> usize {
     let nodes = tables
         .nodes
         .iter()
-        .filter(|node| matches!(node, Node::State(StateNode::Not(77))))
+        .filter(|node| **node == BLANK.node)
         .count();
     let terms = tables
         .terms
         .iter()
-        .filter(|term| {
-            matches!(
-                term,
-                Term {
-                    coefficient: 77,
-                    node: 77
-                }
-            )
-        })
+        .filter(|term| **term == BLANK.term)
         .count();
     let alternatives = tables
         .alternatives
