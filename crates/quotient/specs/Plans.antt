@@ -19,6 +19,10 @@ use Rattle.quotient.specs.declared.write.Step.{Step}
 use Rattle.quotient.specs.declared.write.Sum.{Sum}
 use Rattle.quotient.specs.Quotient.{rows, first_row, new_line, new_lines, quotient_lines}
 
+-- a number that a state or row may have, or that counts them
+abbrev pub Numbered : ℕ → Type 0
+Numbered p = p ≤ 1073741824
+
 -- how many lines a node gives, where there are n states and r rows
 abbrev pub node_width : ℕ → ℕ → Node → ℕ
 node_width n r (State x) = n

@@ -2,7 +2,7 @@
 ghost use Rattle.std.specs.Prelude.{◌≡◌, ◌+◌, ◌*◌, ◌<◌, ◌≤◌, length, sum_by};
 ghost use Rattle.std.specs.List.{range_with_len};
 ghost use Rattle.quotient.specs.Quotient.{rows as all_rows, move_rows};
-ghost use Rattle.quotient.specs.Plans.{node_width, width_before, Sampled, Firsts, plan_nodes, place_in, Planned};
+ghost use Rattle.quotient.specs.Plans.{Numbered, node_width, width_before, Sampled, Firsts, plan_nodes, place_in, Planned};
 
 use formulas::node::{Node, Run};
 use formulas::tables::Tables;
@@ -40,7 +40,7 @@ pub(crate) fn fill_firsts<S: System>(system: &S, firsts: &mut [u32]) -> u32
     requires narrow { (S.meaning system.now).breadth ≤ 4096 }
     requires long { (S.meaning system.now).states * 32 ≤ length firsts.old }
     ensures rows { result ≡ length (all_rows (S.meaning system.now)) }
-    ensures small { result ≤ 1073741824 }
+    ensures small { Numbered result }
     ensures firsts { Firsts (S.meaning system.now) firsts.new ((S.meaning system.now).states * 32) }
 {
     let n = system.states();
@@ -65,8 +65,8 @@ pub(crate) fn width(node: Node, states: u32, rows: u32) -> u32
 // How many lines nodes give.
 fn lines(nodes: &[Node], states: u32, rows: u32) -> u64
     requires few { length nodes.now ≤ 1048576 }
-    requires states { states ≤ 1073741824 }
-    requires rows { rows ≤ 1073741824 }
+    requires states { Numbered states }
+    requires rows { Numbered rows }
     ensures { result ≡ sum_by (node_width states rows) nodes.now }
 {
     nodes
@@ -78,8 +78,8 @@ fn lines(nodes: &[Node], states: u32, rows: u32) -> u64
 // Fills in the number of lines before every 32nd node, and answers the number of all lines.
 pub(crate) fn fill_offsets(nodes: &[Node], states: u32, rows: u32, offsets: &mut [u64]) -> u64
     requires few { length nodes.now ≤ 1048576 }
-    requires states { states ≤ 1073741824 }
-    requires rows { rows ≤ 1073741824 }
+    requires states { Numbered states }
+    requires rows { Numbered rows }
     requires room { length nodes.now ≤ length offsets.old * 32 }
     ensures total { result ≡ width_before states rows nodes.now (length nodes.now) }
     ensures offsets { Sampled states rows nodes.now offsets.new (length nodes.now) }
@@ -97,7 +97,7 @@ impl<'a, S: System> Division<'a, S> {
     pub(crate) fn rows_of(&self, state: u32, action: u32) -> Run
         requires inside { state < (S.meaning self.now.system.now).states }
         ensures rows { range_with_len result.first result.count ≡ move_rows (S.meaning self.now.system.now) state action }
-        ensures small { result.first + result.count ≤ 1073741824 }
+        ensures small { Numbered (result.first + result.count) }
     {
         let count = self.system.moves(state, action);
         let first = if action < ACTIONS {
@@ -124,7 +124,7 @@ impl<'a, S: System> Division<'a, S> {
     // The number of the line that node `d` gives at the state or row `p`.
     pub(crate) fn place(&self, d: u32, p: u32) -> u32
         requires inside { d < length (plan_nodes self.now.plan) }
-        requires small { p ≤ 1073741824 }
+        requires small { Numbered p }
         ensures { result ≡ place_in self.now.plan d p }
     {
         (self.offset(d) + p as u64) as u32

@@ -8,7 +8,7 @@ ghost use Rattle.formulas.specs.Layout.{fills};
 ghost use Rattle.formulas.specs.Stores.{store};
 ghost use Rattle.formulas.specs.Tables.{slots, fits, laid};
 ghost use Rattle.quotient.specs.Layings.{extended, filled, SameSlots, SameTables, lay, lay_all};
-ghost use Rattle.quotient.specs.Plans.{plan_nodes, place_in, AllInside, Fit, AllFit, LightTerm, LightTarget, plan_quotient, moved, Plain, node_width, node_line, node_lines, term_at, sum_at, step_node, sum_node};
+ghost use Rattle.quotient.specs.Plans.{Numbered, plan_nodes, place_in, AllInside, Fit, AllFit, LightTerm, LightTarget, plan_quotient, moved, Plain, node_width, node_line, node_lines, term_at, sum_at, step_node, sum_node};
 ghost use Rattle.quotient.specs.Quotient.{moves_of};
 
 use crate::plan::{Division, width};
@@ -25,7 +25,7 @@ const NO_TARGET: Target = Target {
     weight: 0,
 };
 
-// A step of a formula: its action, and the runs of its alternatives.
+// A step of a formula: its action, and the runs of its alternatives, which are no type of their own in the node.
 #[derive(Clone, Copy)]
 pub(crate) struct Step {
     action: u32,
@@ -61,7 +61,7 @@ impl<'a, S: System> Division<'a, S> {
     // Appends the lines of the parts at the state or row `p`.
     fn put_places(&self, parts: &[u32], p: u32, out: &mut AppendList<u32>)
         requires inside { AllInside self.now.plan parts.now }
-        requires small { p ≤ 1073741824 }
+        requires small { Numbered p }
         ensures same { SameSlots out.old out.new }
         ensures wrote { table out.new ≡ extended (table out.old) (map (λ d. place_in self.now.plan d p) parts.now) }
     {
@@ -73,7 +73,7 @@ impl<'a, S: System> Division<'a, S> {
     // Appends the lines of the part `d` at a run of rows.
     fn put_rows(&self, d: u32, rows: Run, out: &mut AppendList<u32>)
         requires inside { d < length (plan_nodes self.now.plan) }
-        requires small { rows.first + rows.count ≤ 1073741824 }
+        requires small { Numbered (rows.first + rows.count) }
         ensures same { SameSlots out.old out.new }
         ensures wrote { table out.new ≡ extended (table out.old) (map (place_in self.now.plan d) (range_with_len rows.first rows.count)) }
     {
@@ -86,7 +86,7 @@ impl<'a, S: System> Division<'a, S> {
     // Appends the lines of the parts at a run of rows.
     fn put_crossed(&self, parts: &[u32], rows: Run, out: &mut AppendList<u32>)
         requires inside { AllInside self.now.plan parts.now }
-        requires small { rows.first + rows.count ≤ 1073741824 }
+        requires small { Numbered (rows.first + rows.count) }
         ensures same { SameSlots out.old out.new }
         ensures wrote { table out.new ≡ extended (table out.old) (cross (place_in self.now.plan) parts.now (range_with_len rows.first rows.count)) }
     {
@@ -98,8 +98,8 @@ impl<'a, S: System> Division<'a, S> {
     // Appends the move alternatives of a step: on a shared action at the moves, else at the point.
     fn put_move_parts(&self, parts: &[u32], ways: Ways, out: &mut AppendList<u32>)
         requires inside { AllInside self.now.plan parts.now }
-        requires point { ways.state ≤ 1073741824 }
-        requires small { ways.rows.first + ways.rows.count ≤ 1073741824 }
+        requires point { Numbered ways.state }
+        requires small { Numbered (ways.rows.first + ways.rows.count) }
         ensures same { SameSlots out.old out.new }
         ensures wrote { table out.new ≡ extended (table out.old) (if ways.shared then cross (place_in self.now.plan) parts.now (range_with_len ways.rows.first ways.rows.count) else map (λ d. place_in self.now.plan d ways.state) parts.now) }
     {
@@ -114,8 +114,8 @@ impl<'a, S: System> Division<'a, S> {
     fn put_here_parts(&self, parts: &[u32], heres: &[u32], ways: Ways, out: &mut AppendList<u32>)
         requires inside { AllInside self.now.plan parts.now }
         requires heres { AllInside self.now.plan heres.now }
-        requires point { ways.state ≤ 1073741824 }
-        requires small { ways.rows.first + ways.rows.count ≤ 1073741824 }
+        requires point { Numbered ways.state }
+        requires small { Numbered (ways.rows.first + ways.rows.count) }
         ensures same { SameSlots out.old out.new }
         ensures wrote { table out.new ≡ extended (table out.old) (if ways.shared then map (λ d. place_in self.now.plan d ways.state) heres.now else cross (place_in self.now.plan) parts.now (range_with_len ways.rows.first ways.rows.count) ++ map (λ d. place_in self.now.plan d ways.state) heres.now) }
     {
@@ -316,7 +316,7 @@ impl<'a, S: System> Division<'a, S> {
     // A node that is neither a step nor a sum, at the state or row `p`.
     fn node_at(&self, node: Node, p: u32) -> Node
         requires plain { Plain (length (plan_nodes self.now.plan)) node }
-        requires small { p ≤ 1073741824 }
+        requires small { Numbered p }
         ensures { result ≡ moved (λ d. place_in self.now.plan d p) node }
     {
         match node {

@@ -1,7 +1,7 @@
 // Where nodes and their entries come to stand.
 use formulas::node::Run;
 
-// A step: its action, and the runs of its alternatives.
+// A step: its action, and the runs of its alternatives, which are no type of their own in the node.
 #[derive(Clone, Copy)]
 pub(crate) struct Step {
     pub action: u32,

@@ -1,4 +1,4 @@
-// The kinds of nodes that both sorts have.
+// The kinds of nodes that both sorts have: a trait, since a sort is a type here, and in a text a value.
 ghost use Rattle.std.specs.Prelude.{◌≡◌};
 ghost use Rattle.formulas.specs.declared.node.Node.{Node};
 ghost use Rattle.formulas.specs.declared.node.Node.TheVariants.{State, Dist};
