@@ -186,7 +186,7 @@ fn too_short(nodes: u32, states: u32, size: usize, len: usize) -> bool
     size < nodes as usize * states as usize || len < nodes as usize
 }
 
-// The answer of judge, and what it leaves in its two tables.
+// The answer of judge, and what it leaves in its two tables: apart, since what judge says of books follows from it.
 fn answer<S: System>(
     claim: &Claim,
     tables: Tables,

@@ -54,6 +54,7 @@ fn divide_whole<'a, S: System>(
     if MOST_NODES < used.nodes.len() {
         return Err(Refusal::Short);
     }
+    // Local arrays, since a removal allocates nothing.
     let mut firsts = [0; FIRSTS];
     let rows = fill_firsts(system, &mut firsts);
     let states = system.states();

@@ -402,7 +402,7 @@ impl<'a, S: System> Division<'a, S> {
         self.put_nodes(&mut buffer, &mut out);
     }
 
-    // Writes the quotient to the fronts of three tables that have the room.
+    // Writes the quotient to the fronts of three tables that have the room. Each table goes to a list of its own.
     pub(crate) fn write(&self, nodes: &mut [Node], terms: &mut [Term], alternatives: &mut [u32])
         requires fit { AllFit self.now.plan }
         requires room { fits (fills (plan_quotient (S.meaning self.now.system.now) self.now.plan)) (slots nodes.old terms.old alternatives.old) ≡ true }

@@ -75,7 +75,8 @@ fn move_sum(
     Placed { node, end }
 }
 
-// Moves the entries of a node, and renumbers its parts.
+// Moves the entries of a node, and renumbers its parts. The table of nodes stays out: the node is handed in, and put by
+// the caller.
 fn move_node(
     node: Node,
     start: Ends,

@@ -79,7 +79,7 @@ fn shrink(
     standing
 }
 
-// Simplifies the formula that stands at the front of the tables.
+// Simplifies the formula that stands at the front of the tables, which come as slices, as `shrink` needs parts of them.
 fn simplify_front(
     standing: Standing,
     nodes: &mut [Node],

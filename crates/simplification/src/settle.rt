@@ -244,7 +244,7 @@ fn settle_sum(
     Placed { node, end }
 }
 
-// What becomes of a node.
+// What becomes of a node. The tables of entries are apart from that of nodes, which is read while they are written.
 fn settle_node(
     node: Node,
     start: Ends,

@@ -99,6 +99,7 @@ fn walk(states: u32, rows: &[MoveRecord], targets: &[Target]) -> Result<u32, Mou
     requires short { length rows.now ≤ 4096 }
     ensures { elim result [ Ok b ↦ (first_fault states rows.now targets.now (length rows.now) ≡ None) × (b ≡ longest rows.now (length rows.now)) | Err f ↦ first_fault states rows.now targets.now (length rows.now) ≡ blamed f ] }
 {
+    // One count for each state and action; a local array, so that nothing is allocated for tables that are refused.
     let mut earlier = [0u8; CELLS];
     let mut breadth: u32 = 2;
     for (i, r) in rows.iter().enumerate() {
