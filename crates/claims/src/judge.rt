@@ -113,7 +113,7 @@ fn fill_table<'a, S: System>(system: &'a S, tables: Tables<'a>, truth: &mut [u8]
     ensures row { row.new ≡ row.old }
 {
     let states = system.states() as usize;
-    // No loop over the nodes: a board counts them.
+    // By number: each turn splits the table anew, since the bytes before a node are read while its own are written.
     for upto in 0..tables.nodes.len() {
         let (known, rest) = truth.split_at_mut(upto * states);
         let truths = Truths {

@@ -30,7 +30,7 @@ pub fn remove<S: System>(
     let standing = claim.standing();
     let mass = claim.mass();
     let shared = claim.shared();
-    // Both arms are written out, since the claim goes back with an error.
+    // No `map_err`: tried, and goals on the claim that the closure takes stay open, since its values have no names.
     match divide(standing, mass, shared, tables, system, second) {
         Ok(left) => {
             let removed = mass * system.mass();

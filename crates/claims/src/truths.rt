@@ -4,7 +4,7 @@ ghost use Rattle.claims.specs.Sums.{lit, RowAt, RowsAt, coefficients, coefficien
 
 use formulas::node::Term;
 
-// The bytes of nodes in each of so many states, 1 where the node holds.
+// The bytes of nodes in each of so many states, 1 where the node holds: bytes and no bools, since the caller lends them.
 #[derive(Clone, Copy)]
 pub(crate) struct Truths<'a> {
     pub bytes: &'a [u8],

@@ -12,7 +12,7 @@ pub enum Verdict {
 }
 
 impl Verdict {
-    // Named, and no `From<bool>`: a call says of what the truth is a verdict.
+    // No `From<bool>`: it would hold this same choice, and an `into()` would not say that a verdict is made.
     pub fn of(holds: bool) -> Verdict
         ensures { result ≡ verdict holds }
     {

@@ -1,4 +1,4 @@
-// The two sorts of terms, and the nodes that both have.
+// The two sorts of terms, and the nodes that both have: values, since the text says which; simplification has a trait.
 ghost use Rattle.std.specs.Prelude.{◌≡◌};
 ghost use Rattle.formulas.specs.Layout.{constant_node, both_node, non_node};
 ghost use Rattle.formulas.specs.Productions.{sort_of};

@@ -86,7 +86,8 @@ impl Refused {
     }
 }
 
-// Its number, place and layer, and in a line of its own what it means.
+// Its number, place and layer, and in a line of its own what it means. By hand: `thiserror` takes one fixed text for a
+// case, and these may be absent.
 impl fmt::Display for Refused {
     fn fmt<W: fmt::Write>(&self, f: &mut fmt::Formatter<W>) -> fmt::Result {
         f.write_str("refused")?;

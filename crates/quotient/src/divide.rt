@@ -90,6 +90,7 @@ fn divide_whole<'a, S: System>(
 
 // Divides the formula that stands in the tables, `mass` having been removed, by a system that shares these
 // actions. The answer is where the quotient stands in the second tables; a refusal leaves them as they were.
+// Standing and mass come apart, as in the test that a formula stands: one is of tables, the other of what was removed.
 pub fn divide<S: System>(
     standing: Standing,
     mass: u64,

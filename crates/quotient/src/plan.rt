@@ -52,7 +52,7 @@ pub(crate) fn fill_firsts<S: System>(system: &S, firsts: &mut [u32]) -> u32
     next
 }
 
-// How many lines a node gives.
+// How many lines a node gives. States and rows come as two numbers: a plan is not made before they are used.
 pub(crate) fn width(node: Node, states: u32, rows: u32) -> u32
     ensures { result ≡ node_width states rows node }
 {
@@ -85,6 +85,7 @@ pub(crate) fn fill_offsets(nodes: &[Node], states: u32, rows: u32, offsets: &mut
     ensures offsets { Sampled states rows nodes.now offsets.new (length nodes.now) }
 {
     let mut total: u64 = 0;
+    // The offset goes by the number of its block: a `zip` is no shorter, and its facts are of two iterators.
     for (block, nodes) in nodes.chunks(BLOCK).enumerate() {
         offsets[block] = total;
         total += lines(nodes, states, rows);

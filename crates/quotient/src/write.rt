@@ -19,13 +19,15 @@ use systems::system::{System, Target};
 
 // The greatest breadth of a system that can be removed: no move has more targets.
 const MOST_TARGETS: usize = 4096;
-// What the buffer of targets has where none is read. It is an array: an ArrayVec wants a Default or an allocator.
+// What the buffer of targets has where none is read. An array and no `ArrayVec`: the part that is read goes on as a slice,
+// so no length is kept beside it.
 const NO_TARGET: Target = Target {
     state: 0,
     weight: 0,
 };
 
-// A step of a formula: its action, and the runs of its alternatives, which are no type of their own in the node.
+// A step of a formula: its action, and the runs of its alternatives. Simplification has one too: the crates do not know
+// each other, and a node of formulas names the three itself.
 #[derive(Clone, Copy)]
 pub(crate) struct Step {
     action: u32,
@@ -382,7 +384,7 @@ impl<'a, S: System> Division<'a, S> {
         }
     }
 
-    // Writes the quotient to three lists.
+    // Writes the quotient to three lists, which come apart for the reason that `Lists` gives.
     fn put_quotient(
         &self,
         nodes: &mut AppendList<Node>,
@@ -402,7 +404,8 @@ impl<'a, S: System> Division<'a, S> {
         self.put_nodes(&mut buffer, &mut out);
     }
 
-    // Writes the quotient to the fronts of three tables that have the room. Each table goes to a list of its own.
+    // Writes the quotient to the fronts of three tables that have the room. It takes slices: each goes to a list of its own,
+    // and of slices lent out of a struct to such lists nothing would be known after.
     pub(crate) fn write(&self, nodes: &mut [Node], terms: &mut [Term], alternatives: &mut [u32])
         requires fit { AllFit self.now.plan }
         requires room { fits (fills (plan_quotient (S.meaning self.now.system.now) self.now.plan)) (slots nodes.old terms.old alternatives.old) ≡ true }

@@ -75,8 +75,8 @@ fn move_sum(
     Placed { node, end }
 }
 
-// Moves the entries of a node, and renumbers its parts. The table of nodes stays out: the node is handed in, and put by
-// the caller.
+// Moves the entries of a node, and renumbers its parts. It takes slices: the node comes from the third table, which the
+// caller writes. The arms of both sorts are written out: by `Plain` each would be a call and a wrapping, no shorter.
 fn move_node(
     node: Node,
     start: Ends,

@@ -1,7 +1,8 @@
 // Where nodes and their entries come to stand.
 use formulas::node::Run;
 
-// A step: its action, and the runs of its alternatives, which are no type of their own in the node.
+// A step: its action, and the runs of its alternatives. Quotient has one too: the crates do not know each other, and a
+// node of formulas names the three itself.
 #[derive(Clone, Copy)]
 pub(crate) struct Step {
     pub action: u32,

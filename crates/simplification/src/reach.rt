@@ -69,6 +69,7 @@ pub(crate) fn reach(root: u32, tables: Tables, ticks: &mut [u32])
     ensures { Ticks ticks.new (reached 0 (all_lines (contents tables.entry)) (root ∷ [])) }
 {
     ticks[root as usize] = TICK;
+    // The tick is looked up, since those before it are written meanwhile.
     for (i, node) in tables.nodes.iter().enumerate().rev() {
         if ticks[i] == TICK {
             tick_node(*node, tables, ticks);

@@ -16,7 +16,8 @@ pub enum AnySystem {
     Empty(Empty),
 }
 
-// Asks the system, whichever kind it is. A macro and no method: none may hand out a `dyn`, and the kinds share no other type.
+// Asks the system, whichever kind it is. A macro: none may hand out a `dyn`, and a method that takes a closure would have
+// to say for each kind what it answers.
 macro_rules! ask {
     ($any:expr, $system:ident => $question:expr) => {
         match $any {

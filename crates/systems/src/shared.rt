@@ -1,4 +1,4 @@
-// A system held in several places.
+// A system held in several places. Apart from that for a loan, as borrowed.rt says.
 ghost use Rattle.std.proofs.Common.{rules};
 
 use crate::system::{System, Target};

@@ -14,6 +14,7 @@ pub struct Blank {
     pub alternative: u32,
 }
 
+// Like the store of the program qcheck: a program hands no type on.
 #[derive(Drop)]
 pub struct Slots {
     pub nodes: Vec<Node>,
@@ -22,7 +23,7 @@ pub struct Slots {
 }
 
 impl Slots {
-    // Blank tables of these lengths.
+    // Blank tables of these lengths: three numbers and no fills, since a length is a `usize`.
     pub fn blank(
         heap: Global,
         blank: Blank,

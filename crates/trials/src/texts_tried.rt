@@ -88,7 +88,7 @@ fn try_digits(rt: &HostRuntime, label: &str, count: usize) -> anyhow::Result<()>
     try_text(rt, label, text.as_str().as_bytes())
 }
 
-// One text into tables of several lengths.
+// One text into tables of several lengths, three numbers as those of their slots.
 fn try_room(
     rt: &HostRuntime,
     label: &str,
