@@ -1,7 +1,7 @@
 -- Tables that are filled, entry after entry and line after line.
 use Rattle.std.proofs.Common.{◌≡◌, ℕ, suc, ◌+◌, ◌<◌, ◌≤◌, true, leb, List, [], ◌∷◌, ◌++◌, map, length, get_or, take, drop, set, sym, refl, ap, ◌∙◌, ap₂, append_assoc, add-zero, arith}
 use Rattle.std.specs.List.{range_with_len, flat_map}
-use Rattle.std.proofs.lemmas.List.{length-append, take-append-drop, take_more_set, drop-set-lt, length-set, map_more, map-append}
+use Rattle.std.proofs.lemmas.List.{length-append, length-drop, take-append-drop, take_more_set, drop-set-lt, length-set, map_more, map-append}
 use Rattle.std.proofs.lemmas.List.FromFn.{map-range_with_len_more}
 use Rattle.std.proofs.lemmas.Bool.{and_parts, leb-true}
 use Rattle.std.proofs.iter.runs.Lists.{fold-append}
@@ -150,20 +150,36 @@ starts_are n t a ns ts alts en fn et ft ea fa = cc
 pub room : (size need : ℕ) → takes size need ≡ true → (need ≤ size) × (need ≤ 1048576)
 room size need e = let tests = and_parts (leb need size) (leb need 1048576) e in (leb-true need size tests.0, leb-true need 1048576 tests.1)
 
+-- a table is as long as what is laid over it
+over-long : {X : Type 0} (xs old now : List X) → now ≡ over xs old → length xs ≤ length old → length now ≡ length old
+over-long xs old now e h = ap length e ∙ omega (arith, length-append xs (drop (length xs) old), length-drop (length xs) old)
+
 -- lines laid into them
 module _ (ls : List Line) (ns : List Node) (ts : List Term) (alts : List ℕ) (u : Store) (e : u ≡ lay_all (starts ns ts alts) ls) (fit : fits (fills ls) (slots ns ts alts) ≡ true) where
+  node-room : (length ls ≤ length ns) × (length ls ≤ 1048576)
+  node-room = room (length ns) (length ls) (and_parts (takes (length ns) (length ls)) _ fit).0
+
+  term-room : (length (term_table ls) ≤ length ts) × (length (term_table ls) ≤ 1048576)
+  term-room = room (length ts) (length (term_table ls)) (and_parts (takes (length ts) (length (term_table ls))) (takes (length alts) (length (alternative_table ls))) (and_parts (takes (length ns) (length ls)) _ fit).1).0
+
+  alternative-room : (length (alternative_table ls) ≤ length alts) × (length (alternative_table ls) ≤ 1048576)
+  alternative-room = room (length alts) (length (alternative_table ls)) (and_parts (takes (length ts) (length (term_table ls))) (takes (length alts) (length (alternative_table ls))) (and_parts (takes (length ns) (length ls)) _ fit).1).1
+
   pub laid-over : slots u.nodes.slots u.terms.slots u.alternatives.slots ≡ laid ls (slots ns ts alts)
   laid-over =
-      let first = and_parts (takes (length ns) (length ls)) _ fit in
-      let others = and_parts (takes (length ts) (length (term_table ls))) (takes (length alts) (length (alternative_table ls))) first.1 in
-      let rn = room (length ns) (length ls) first.0 in
-      let rt = room (length ts) (length (term_table ls)) others.0 in
-      let ra = room (length alts) (length (alternative_table ls)) others.1 in
       let long = length-nodes 0 0 ls in
       let nodes : u.nodes.slots ≡ over (node_table 0 0 ls) ns =
       over_from_start (record { slots = ns; fill = 0 }) u.nodes (node_table 0 0 ls) refl
-      (ap (λ (w : Store). w.nodes) e ∙ laid-nodes (starts ns ts alts) ls (omega (arith, rt.1)) (omega (arith, ra.1)))
-      (omega (arith, rn.0)) (omega (arith, rn.1)) in
-      let terms : u.terms.slots ≡ over (term_table ls) ts = over_from_start (record { slots = ts; fill = 0 }) u.terms (term_table ls) refl (ap (λ (w : Store). w.terms) e ∙ laid-terms (starts ns ts alts) ls) rt.0 rt.1 in
-      let alternatives : u.alternatives.slots ≡ over (alternative_table ls) alts = over_from_start (record { slots = alts; fill = 0 }) u.alternatives (alternative_table ls) refl (ap (λ (w : Store). w.alternatives) e ∙ laid-alternatives (starts ns ts alts) ls) ra.0 ra.1 in
+      (ap (λ (w : Store). w.nodes) e ∙ laid-nodes (starts ns ts alts) ls (omega (arith, term-room.1)) (omega (arith, alternative-room.1)))
+      (omega (arith, node-room.0)) (omega (arith, node-room.1)) in
+      let terms : u.terms.slots ≡ over (term_table ls) ts = over_from_start (record { slots = ts; fill = 0 }) u.terms (term_table ls) refl (ap (λ (w : Store). w.terms) e ∙ laid-terms (starts ns ts alts) ls) term-room.0 term-room.1 in
+      let alternatives : u.alternatives.slots ≡ over (alternative_table ls) alts = over_from_start (record { slots = alts; fill = 0 }) u.alternatives (alternative_table ls) refl (ap (λ (w : Store). w.alternatives) e ∙ laid-alternatives (starts ns ts alts) ls) alternative-room.0 alternative-room.1 in
       cc
+
+  -- so the tables are as long as before
+  pub laid-long : (length u.nodes.slots ≡ length ns) × (length u.terms.slots ≡ length ts) × (length u.alternatives.slots ≡ length alts)
+  laid-long = (
+    over-long (node_table 0 0 ls) ns u.nodes.slots (ap (λ s. s.nodes) laid-over) (omega (arith, length-nodes 0 0 ls, node-room.0)),
+    over-long (term_table ls) ts u.terms.slots (ap (λ s. s.terms) laid-over) term-room.0,
+    over-long (alternative_table ls) alts u.alternatives.slots (ap (λ s. s.alternatives) laid-over) alternative-room.0,
+  )

@@ -76,7 +76,7 @@ fn divide_whole<'a, S: System>(
         firsts: &firsts,
     };
     let division = Division { system, plan };
-    division.write(second.nodes, second.terms, second.alternatives);
+    division.write(second);
     let fills = Fills {
         nodes,
         terms,

@@ -6,7 +6,7 @@ ghost use Rattle.systems.specs.Piles.{cross};
 ghost use Rattle.formulas.specs.Append.{table};
 ghost use Rattle.formulas.specs.Layout.{fills};
 ghost use Rattle.formulas.specs.Stores.{store};
-ghost use Rattle.formulas.specs.Tables.{slots, fits, laid};
+ghost use Rattle.formulas.specs.Tables.{held, SameLoans, fits, laid};
 ghost use Rattle.quotient.specs.Layings.{extended, filled, SameSlots, SameTables, lay, lay_all};
 ghost use Rattle.quotient.specs.Plans.{Numbered, plan_nodes, place_in, AllInside, Fit, AllFit, LightTerm, LightTarget, plan_quotient, moved, Plain, node_width, node_line, node_lines, term_at, sum_at, step_node, sum_node};
 ghost use Rattle.quotient.specs.Quotient.{moves_of};
@@ -14,6 +14,7 @@ ghost use Rattle.quotient.specs.Quotient.{moves_of};
 use crate::plan::{Division, width};
 use formulas::append::AppendList;
 use formulas::node::{DistNode, Node, Run, StateNode, Term};
+use formulas::tables::TablesMut;
 use systems::actions::ACTIONS;
 use systems::system::{System, Target};
 
@@ -404,16 +405,16 @@ impl<'a, S: System> Division<'a, S> {
         self.put_nodes(&mut buffer, &mut out);
     }
 
-    // Writes the quotient to the fronts of three tables that have the room. It takes slices: each goes to a list of its own,
-    // and of slices lent out of a struct to such lists nothing would be known after.
-    pub(crate) fn write(&self, nodes: &mut [Node], terms: &mut [Term], alternatives: &mut [u32])
+    // Writes the quotient to the fronts of tables that have the room.
+    pub(crate) fn write(&self, second: &mut TablesMut)
         requires fit { AllFit self.now.plan }
-        requires room { fits (fills (plan_quotient (S.meaning self.now.system.now) self.now.plan)) (slots nodes.old terms.old alternatives.old) ≡ true }
-        ensures { slots nodes.new terms.new alternatives.new ≡ laid (plan_quotient (S.meaning self.now.system.now) self.now.plan) (slots nodes.old terms.old alternatives.old) }
+        requires room { fits (fills (plan_quotient (S.meaning self.now.system.now) self.now.plan)) (held second.old) ≡ true }
+        ensures lent { SameLoans second.old second.new }
+        ensures wrote { held second.new ≡ laid (plan_quotient (S.meaning self.now.system.now) self.now.plan) (held second.old) }
     {
-        let mut node_list = AppendList::new(nodes);
-        let mut term_list = AppendList::new(terms);
-        let mut alternative_list = AppendList::new(alternatives);
-        self.put_quotient(&mut node_list, &mut term_list, &mut alternative_list);
+        let mut nodes = AppendList::new(second.nodes);
+        let mut terms = AppendList::new(second.terms);
+        let mut alternatives = AppendList::new(second.alternatives);
+        self.put_quotient(&mut nodes, &mut terms, &mut alternatives);
     }
 }
