@@ -1,5 +1,5 @@
 -- Tables that were lent come back with what was left in them.
-use Rattle.std.proofs.Common.{◌≡◌, ℕ, true, List, length, is_err, IfOk, Ok, Err, vec_items, Result, Vec, sym, refl, ap, ◌∙◌, subst, ap₂, true≢false}
+use Rattle.std.proofs.Common.{◌≡◌, ℕ, true, List, length, is_err, IfOk, Ok, Err, vec_items, Result, sym, refl, ap, ◌∙◌, subst, ap₂, true≢false}
 use Rattle.std.specs.Vec.{with_items}
 use Rattle.std.proofs.lemmas.List.{with_items_is}
 use Rattle.formulas.specs.declared.node.Node.{Node}
@@ -7,7 +7,6 @@ use Rattle.formulas.specs.declared.node.Term.{Term}
 use Rattle.systems.specs.Meaning.{Meaning}
 use Rattle.formulas.specs.declared.tables.TablesMut.{TablesMut}
 use Rattle.formulas.specs.Tables.{Slots, slots, held}
-use Rattle.claims.specs.declared.claim.Claim.{Claim}
 use Rattle.claims.specs.Books.{removing, Entry, entry, Stage, stage}
 use Rattle.claims.specs.Runs.{Step, remove, simplify, judge}
 use Rattle.qcheck.specs.declared.case.Case.{Case}

@@ -99,7 +99,8 @@ fn remove_into<S: System>(
     system: &S,
     room: usize,
 ) -> Result<Removed, AllocError>
-    ensures { IfOk result (Removal (S.System.meaning system.now) case) }
+    ensures step { IfOk result (Removal (S.System.meaning system.now) case) }
+    ensures fills { IfOk result (λ r. IfOk r (λ left. left.1 ≡ left.0.claim.fills)) }
 {
     let mut second = Store::blank(heap, room)?;
     let Case { claim, store } = case;
@@ -126,7 +127,8 @@ fn remove_into<S: System>(
 
 // Removes a system: first with few entries, and if they do not do, with as many as a formula may use.
 pub fn remove_from<S: System>(heap: Global, case: Case, system: &S) -> Result<Removed, AllocError>
-    ensures { IfOk result (Removal (S.System.meaning system.now) case) }
+    ensures step { IfOk result (Removal (S.System.meaning system.now) case) }
+    ensures fills { IfOk result (λ r. IfOk r (λ left. left.1 ≡ left.0.claim.fills)) }
 {
     match remove_into(heap, case, system, FEW_ENTRIES)? {
         Err((case, Refusal::Short)) => remove_into(heap, case, system, MOST_ENTRIES),

@@ -22,9 +22,13 @@ pub struct Pile<U: System, L: System> {
     upper: U,
     lower: L,
     shared: ActionSet,
-    // Kept, since each question asks for it: asked of the parts anew, nested piles take twice as long.
+    // Kept, since questions ask for them at every level: asked of the parts anew, each takes as long as the pile is high.
     states: u32,
+    mass: u64,
+    breadth: u32,
     ghost counted: { states ≡ (U.System.meaning upper).states * (L.System.meaning lower).states },
+    ghost weighed: { mass ≡ (U.System.meaning upper).mass * (L.System.meaning lower).mass },
+    ghost broad: { breadth ≡ (U.System.meaning upper).breadth * (L.System.meaning lower).breadth },
     ghost limited: { Limited (pile (has shared) (U.System.meaning upper) (L.System.meaning lower)) },
 }
 
@@ -47,6 +51,8 @@ impl<U: System, L: System> Pile<U, L> {
             lower,
             shared,
             states: states as u32,
+            mass: mass as u64,
+            breadth: breadth as u32,
         })
     }
 
@@ -86,11 +92,11 @@ impl<U: System, L: System> System for Pile<U, L> {
     }
 
     fn mass(&self) -> u64 {
-        self.upper.mass() * self.lower.mass()
+        self.mass
     }
 
     fn breadth(&self) -> u32 {
-        self.upper.breadth() * self.lower.breadth()
+        self.breadth
     }
 
     fn moves(&self, state: u32, action: u32) -> u32 {

@@ -7,8 +7,8 @@ use Rattle.qcheck.specs.Cases.{stage_of}
 use Rattle.qcheck.proofs.Cases.{owned_after}
 use Rattle.qcheck.proofs.case.remove_into.Goals as goal
 
-pub returns-in-Ok : goal.returns-in-Ok
-returns-in-Ok g c =
+pub returns-in-Ok-clause-step : goal.returns-in-Ok-clause-step
+returns-in-Ok-clause-step g c =
     let R = g.S.System.meaning c.args.system.now in
     let left = c.remove.new.second in
     let given = slots c.deref_mut.result.now c.deref_mut-2.result.now c.deref_mut-3.result.now in
@@ -18,8 +18,8 @@ returns-in-Ok g c =
     (search rules) (search rules) (search rules)
     (remove R given (held left) answer (g.met.S.System.sound c.args.system.now) (subst (λ s. Removes R c.args.case.claim s given answer (held left)) c.tables.ensures c.in-Ok.ensures.outcome))
 
-pub returns-in-Err : goal.returns-in-Err
-returns-in-Err g c =
+pub returns-in-Err-clause-step : goal.returns-in-Err-clause-step
+returns-in-Err-clause-step g c =
     let R = g.S.System.meaning c.args.system.now in
     let left = c.remove.new.second in
     let given = slots c.deref_mut.result.now c.deref_mut-2.result.now c.deref_mut-3.result.now in

@@ -1,6 +1,3 @@
-use Rattle.std.proofs.Common.{subst}
-use Rattle.simplification.specs.Tables.{desk}
-use Rattle.claims.specs.Simplifications.{Simplifies}
 use Rattle.claims.specs.Runs.{simplify}
 use Rattle.qcheck.specs.Cases.{owned}
 use Rattle.qcheck.proofs.case.Case.simplify.Goals as goal
