@@ -22,7 +22,7 @@ pub struct Pile<U: System, L: System> {
     upper: U,
     lower: L,
     shared: ActionSet,
-    // Kept, since questions ask for them at every level: asked of the parts anew, each takes as long as the pile is high.
+    // Kept: asked of the parts anew, each would take as many questions as the pile has parts.
     states: u32,
     mass: u64,
     breadth: u32,
